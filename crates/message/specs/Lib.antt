@@ -1,1 +1,5 @@
 pub mod Refusals
+pub mod Bytes
+pub mod Codes
+pub mod Messages
+pub mod Kinds

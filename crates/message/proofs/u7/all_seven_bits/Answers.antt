@@ -1,0 +1,20 @@
+use native.Mathlib.Omega.{arith}
+use Rattle.std.proofs.shelf.Lists.{at-drop-more, at-drop-all}
+use Rattle.std.proofs.shelf.Ways.{tells}
+use Rattle.message.specs.Bytes.{sevens}
+use Rattle.message.proofs.u7.all_seven_bits.Needs as need
+
+pub returns-then-byte-ge128 : need.returns-then-byte-ge128
+returns-then-byte-ge128 c =
+    let e = at-drop-more sevens (c .args .bytes .now) (c .loop-byte .byte-index) 0 (omega arith) in
+    grind (arith, tells)
+
+pub loop-byte-again : need.loop-byte-again
+loop-byte-again c =
+    let e = at-drop-more sevens (c .args .bytes .now) (c .loop-byte .byte-index) 0 (omega arith) in
+    grind (arith, tells)
+
+pub returns : need.returns
+returns c =
+    let e = at-drop-all sevens (c .args .bytes .now) (c .loop-byte .byte-index) (omega arith) in
+    cc
