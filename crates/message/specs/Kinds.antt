@@ -33,8 +33,11 @@ least sub version =
     (cond (eqb sub (code SubId.InvalidateMuid)) 19 15)))
 
 -- a message has 15 bytes beside its body
+abbrev pub short : (sub version : ℕ) → List ℕ → Bool
+short sub version body = ltb (15 + length body) (least sub version)
+
 abbrev pub too-short : Fields → Bool
-too-short m = ltb (15 + length (m .body)) (least (m .sub) (m .version))
+too-short m = short (m .sub) (m .version) (m .body)
 
 -- a count is two bytes of seven bits, lowest first
 abbrev pub count-at : ℕ → List ℕ → ℕ
@@ -69,5 +72,8 @@ kind-by sub body =
     (cond (eqb sub (code SubId.Nak)) (nak body) other)))))))))))
 
 -- a message of version 0, or one too short for what it is to hold, is of no kind
+abbrev pub kind-at : (sub version : ℕ) → List ℕ → Kind
+kind-at sub version body = cond (eqb version 0 || short sub version body) other (kind-by sub body)
+
 abbrev pub kind : Fields → Kind
-kind m = cond (eqb (m .version) 0 || too-short m) other (kind-by (m .sub) (m .body))
+kind m = kind-at (m .sub) (m .version) (m .body)

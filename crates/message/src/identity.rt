@@ -3,8 +3,8 @@ ghost use mathlib.Core.Path.{_≡_};
 ghost use mathlib.Core.Bool.{true, false, _&&_};
 ghost use Rattle.std.specs.Results.{Cases as ByOk};
 ghost use Rattle.message.specs.Bytes.{sevens, is-block};
+use crate::bytes::all_seven_bits;
 use crate::refusal::Refusal;
-use crate::u7::all_seven_bits;
 
 /// Manufacturer (3 bytes), family (2), model (2) and revision (4), and the Function Block (0 to 31, or 127).
 #[derive(Clone, Copy)]

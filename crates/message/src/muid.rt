@@ -24,7 +24,11 @@ impl Muid {
     pub fn new(number: u32) -> Option<Muid>
         ensures { λ r. ⌜ BySome r (0x10000000 ≤ number) (λ m. m .number ≡ number) ⌝ }
     {
-        if number < 0x1000_0000 { Some(Muid { number }) } else { None }
+        if number < 0x1000_0000 {
+            Some(Muid { number })
+        } else {
+            None
+        }
     }
 
     /// The usable MUID that a draw gives: its remainder by 268,435,200.
@@ -54,6 +58,10 @@ impl Muid {
 pub impl fmt::Display for Muid as MuidDisplay {
     fn fmt<W: fmt::Write>(&self, f: &mut fmt::Formatter<W>) -> fmt::Result {
         let number = self.number;
-        if number == BROADCAST { write!(f, "broadcast") } else { write!(f, "{number}") }
+        if number == BROADCAST {
+            write!(f, "broadcast")
+        } else {
+            write!(f, "{number}")
+        }
     }
 }

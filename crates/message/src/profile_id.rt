@@ -3,7 +3,7 @@ ghost use mathlib.Core.Path.{_≡_};
 ghost use mathlib.Core.Bool.{true, false};
 ghost use Rattle.std.specs.Options.{Cases as BySome};
 ghost use Rattle.message.specs.Bytes.{is-id};
-use crate::u7::all_seven_bits;
+use crate::bytes::all_seven_bits;
 use std::fmt;
 
 /// Five bytes below 80h that name a profile and its level.
@@ -18,7 +18,11 @@ impl ProfileId {
     pub fn new(bytes: [u8; 5]) -> Option<ProfileId>
         ensures { λ r. ⌜ BySome r (is-id bytes ≡ false) (λ i. i .bytes ≡ bytes) ⌝ }
     {
-        if all_seven_bits(&bytes) { Some(ProfileId { bytes }) } else { None }
+        if all_seven_bits(&bytes) {
+            Some(ProfileId { bytes })
+        } else {
+            None
+        }
     }
 }
 

@@ -2,7 +2,7 @@ use native.Mathlib.Omega.{arith}
 use Rattle.std.proofs.shelf.Lists.{at-drop-more, at-drop-all}
 use Rattle.std.proofs.shelf.Ways.{tells}
 use Rattle.message.specs.Bytes.{sevens}
-use Rattle.message.proofs.u7.all_seven_bits.Needs as need
+use Rattle.message.proofs.bytes.all_seven_bits.Needs as need
 
 pub returns-then-byte-ge128 : need.returns-then-byte-ge128
 returns-then-byte-ge128 c =
