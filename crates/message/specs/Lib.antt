@@ -5,3 +5,6 @@ pub mod Messages
 pub mod Kinds
 pub mod Reading
 pub mod Shapes
+pub mod Rows
+pub mod Sending
+pub mod Writing

@@ -24,6 +24,10 @@ abbrev pub encode : Fields → List ℕ
 encode m =
     0xF0 ∷ 0x7E ∷ m .address ∷ 0x0D ∷ m .sub ∷ m .version ∷ (muid (m .source) ++ (muid (m .destination) ++ (m .body ++ 0xF7 ∷ [])))
 
+-- what stands before the body of a message that is sent, whose version is 02h
+abbrev pub header : (sub address source destination : ℕ) → List ℕ
+header sub a source destination = (0xF0 ∷ 0x7E ∷ a ∷ 0x0D ∷ sub ∷ 0x02 ∷ []) ++ (muid source ++ muid destination)
+
 -- the frame: 15 to 512 bytes, the fixed ones in their places, and no byte from 80h between the first and the last
 abbrev pub framed : List ℕ → Bool
 framed bs =

@@ -1,4 +1,6 @@
 //! Sub-IDs of messages and statuses of NAKs, each with its number.
+ghost use mathlib.Core.Path.{_≡_};
+ghost use Rattle.message.specs.Codes.{code, status-code};
 
 /// The messages that are read or written, by their Sub-ID.
 #[derive(Clone, Copy)]
@@ -17,6 +19,15 @@ pub enum SubId {
     Nak = 0x7F,
 }
 
+impl SubId {
+    /// The byte that stands for it in a message.
+    pub fn byte(self) -> u8
+        ensures { λ r. ⌜ r ≡ code self ⌝ }
+    {
+        self as u8
+    }
+}
+
 /// Why an inquiry is answered by a NAK.
 #[derive(Clone, Copy)]
 pub enum NakStatus {
@@ -24,4 +35,13 @@ pub enum NakStatus {
     WrongVersion = 0x02,
     NoSuchProfile = 0x04,
     Malformed = 0x41,
+}
+
+impl NakStatus {
+    /// The byte that stands for it in a NAK.
+    pub fn byte(self) -> u8
+        ensures { λ r. ⌜ r ≡ status-code self ⌝ }
+    {
+        self as u8
+    }
 }

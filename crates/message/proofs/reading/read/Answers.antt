@@ -4,7 +4,7 @@ use native.Mathlib.Omega.{arith}
 use Rattle.std.proofs.shelf.Ways.{tells}
 use Rattle.message.specs.Messages.{framed}
 use Rattle.message.proofs.Framing.{unframed, well-framed, number-fits, header-low}
-use Rattle.message.proofs.read.read.Needs as need
+use Rattle.message.proofs.reading.read.Needs as need
 
 pub returns-in-rest : need.returns-in-rest
 returns-in-rest c =

@@ -1,0 +1,51 @@
+-- The messages that are sent: version 02h, from the own number.
+use mathlib.Core.List.{List, [], _∷_, _++_}
+use mathlib.Core.Bool.{Bool, true, false, cond}
+use Prim.Native.Nat.{ℕ, _/_, _%_}
+use lib.Dec.{ltb}
+use lib.ListN.{length}
+use Rattle.std.specs.Joined.{joined}
+use Rattle.message.specs.Codes.{code, status-code}
+use Rattle.message.specs.Messages.{Fields, muid}
+use Rattle.message.specs.Rows.{part}
+use Rattle.message.specs.declared.row.Row.{Row}
+use Rattle.message.specs.declared.sub_id.SubId.{SubId}
+use Rattle.message.specs.declared.sent.Sent.{Sent}
+use Rattle.message.specs.declared.sent.Sent.the-variants.{Discovery, DiscoveryReply, InvalidateMuid, Enabled, Disabled, Added, Removed, Nak}
+
+-- the destination that means every device
+abbrev pub everyone : ℕ
+everyone = 268435455
+
+abbrev pub sends : (own address : ℕ) → SubId → (to : ℕ) → List ℕ → Fields
+sends own a sub to body = record { address = a; sub = code sub; version = 0x02; source = own; destination = to; body = body }
+
+-- what is supported: 04h for profile configuration, and the largest message that is received, 512 bytes
+abbrev pub supports : List ℕ
+supports = 0x04 ∷ 0x00 ∷ 0x04 ∷ 0x00 ∷ 0x00 ∷ []
+
+-- how many channels a report is about: one at a channel, else none
+abbrev pub channels : ℕ → List ℕ
+channels a = cond (ltb a 0x10) 0x01 0x00 ∷ 0x00 ∷ []
+
+-- the fields of a message that is sent from the own number
+abbrev pub meant : ℕ → Sent → Fields
+meant own (Discovery identity) = sends own 0x7F SubId.Discovery everyone (identity .bytes ++ (supports ++ 0x00 ∷ []))
+meant own (DiscoveryReply to identity path) = sends own 0x7F SubId.ReplyToDiscovery (to .number) (identity .bytes ++ (supports ++ path ∷ identity .block ∷ []))
+meant own (InvalidateMuid target) = sends own 0x7F SubId.InvalidateMuid everyone (muid (target .number))
+meant own (Enabled address id) = sends own (address .byte) SubId.ProfileEnabledReport everyone (id .bytes ++ channels (address .byte))
+meant own (Disabled address id) = sends own (address .byte) SubId.ProfileDisabledReport everyone (id .bytes ++ channels (address .byte))
+meant own (Added address id) = sends own (address .byte) SubId.ProfileAddedReport everyone (id .bytes)
+meant own (Removed address id) = sends own (address .byte) SubId.ProfileRemovedReport everyone (id .bytes)
+meant own (Nak to address sub status) =
+    sends own (address .byte) SubId.Nak (to .number)
+    (sub ∷ status-code status ∷ 0x00 ∷ 0x00 ∷ 0x00 ∷ 0x00 ∷ 0x00 ∷ 0x00 ∷ 0x00 ∷ 0x00 ∷ [])
+
+-- how many rows, in two bytes of seven bits, lowest first, and then their IDs
+abbrev pub counted : List Row → List ℕ
+counted rows = length rows % 0x80 ∷ length rows / 0x80 ∷ joined (λ r. r .id) rows
+
+-- the reply to a listing inquiry at an address: the rows there that are on, and those that are off
+abbrev pub profile-list : (own to address : ℕ) → List Row → Fields
+profile-list own to a rows =
+    sends own a SubId.ReplyToProfileInquiry to (counted (part a true rows) ++ counted (part a false rows))
