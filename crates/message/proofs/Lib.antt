@@ -1,3 +1,4 @@
 pub mod Framing
 pub mod Places
 pub mod Encoding
+pub mod Parts

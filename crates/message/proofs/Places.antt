@@ -1,9 +1,10 @@
 -- One write after another into a buffer.
 use mathlib.Core.Path.{_≡_, refl, sym, _∙_, ap, subst}
-use mathlib.Core.Bool.{true, false}
+use mathlib.Core.Bool.{Bool, true, false, _&&_}
 use mathlib.Core.List.{List, [], _∷_, _++_}
 use Prim.Native.Nat.{ℕ, _+_, _-_, _≤_, _<_}
 use native.Mathlib.Omega.{arith}
+use lib.Dec.{leb}
 use lib.ListN.{length, take, drop}
 use lib.Seq.{paste}
 use borrow.Rule.Slice.PartMut.{putMid}
@@ -12,7 +13,7 @@ use native.Mathlib.Nat.{add-zero}
 use Rattle.std.proofs.shelf.Edits.{paste-paste, paste-all, length-paste}
 use Rattle.std.proofs.shelf.Parts.{putMid-paste}
 use Rattle.std.specs.declared.result.Result.the-variants.{Ok, Err}
-use Rattle.std.proofs.shelf.Tests.{and-from, cond-true, cond-false, le-leb}
+use Rattle.std.proofs.shelf.Tests.{and-from, cond-true, cond-false, le-leb, lt-leb}
 use Rattle.message.specs.Writing.{written, room-for, Put, Left, Written}
 use Rattle.message.specs.declared.refusal.Refusal.{Refusal}
 
@@ -100,6 +101,10 @@ pub written-whole : {before : List ℕ} {at : ℕ} {bytes : List ℕ} {end : ℕ
 written-whole {before} {at} {bytes} {end} {after} few p =
     let f : room-for (length bytes) before at ≡ true = and-from _ _ (le-leb (length bytes) 512 few) (le-leb (at + length bytes) (length before) (p .room)) in
     record { value = ap Ok (p .ends) ∙ sym (cond-true _ _ _ f); holds = p .holds ∙ sym (cond-true _ _ _ f) }
+
+-- over 512 bytes nothing fits
+pub too-long : (n : ℕ) (before : List ℕ) (at : ℕ) → 512 < n → room-for n before at ≡ false
+too-long n before at h = ap (λ (b : Bool). b && leb (at + n) (length before)) (lt-leb n 512 h)
 
 -- one that does not fit is refused
 pub written-not : {before : List ℕ} {at : ℕ} {bytes : List ℕ} (n : ℕ) → n ≡ length bytes → room-for n before at ≡ false

@@ -41,9 +41,13 @@ meant own (Nak to address sub status) =
     sends own (address .byte) SubId.Nak (to .number)
     (sub ∷ status-code status ∷ 0x00 ∷ 0x00 ∷ 0x00 ∷ 0x00 ∷ 0x00 ∷ 0x00 ∷ 0x00 ∷ 0x00 ∷ [])
 
+-- the IDs of rows, one after the other
+abbrev pub ids-of : List Row → List ℕ
+ids-of rows = joined (λ r. r .id) rows
+
 -- how many rows, in two bytes of seven bits, lowest first, and then their IDs
 abbrev pub counted : List Row → List ℕ
-counted rows = length rows % 0x80 ∷ length rows / 0x80 ∷ joined (λ r. r .id) rows
+counted rows = length rows % 0x80 ∷ length rows / 0x80 ∷ ids-of rows
 
 -- the reply to a listing inquiry at an address: the rows there that are on, and those that are off
 abbrev pub profile-list : (own to address : ℕ) → List Row → Fields

@@ -41,7 +41,14 @@ pub(crate) fn put(bytes: &[u8], out: &mut [u8], at: usize) -> usize
 }
 
 /// Puts what every message begins with: `F0 7E` address `0D` Sub-ID `02`, source, destination.
-fn put_header(sub: SubId, address: u8, own: Muid, to: Muid, out: &mut [u8], at: usize) -> usize
+pub(crate) fn put_header(
+    sub: SubId,
+    address: u8,
+    own: Muid,
+    to: Muid,
+    out: &mut [u8],
+    at: usize,
+) -> usize
     requires { ⌜ at + 14 ≤ length (now out) ⌝ }
     ensures { λ r. ⌜ Put (now (out .entry)) at (header (code sub) address (own .number) (to .number)) r (now (out .exit)) ⌝ }
 {
@@ -51,7 +58,7 @@ fn put_header(sub: SubId, address: u8, own: Muid, to: Muid, out: &mut [u8], at: 
 }
 
 /// Whether so many bytes go into what is left of a buffer.
-fn has_room(bytes: usize, out: &[u8], at: usize) -> bool
+pub(crate) fn has_room(bytes: usize, out: &[u8], at: usize) -> bool
     ensures { λ r. ⌜ r ≡ room-for bytes (now (out .entry)) at ⌝ }
 {
     bytes <= LONGEST && bytes <= out.len() && at <= out.len() - bytes
