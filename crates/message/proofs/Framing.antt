@@ -49,7 +49,7 @@ well-framed bs e s d k s-is d-is k-is =
     let done = cond-true (framed bs) (taken-apart (fields bs) (kind (fields bs))) (refused Refusal.NotFramed) e in
     rw (s′, d′, k′) (sym done)
 
-sevens-getD : (xs : List ℕ) (i : ℕ) → sevens xs ≡ true → getD xs i 0 < 0x80
+pub sevens-getD : (xs : List ℕ) (i : ℕ) → sevens xs ≡ true → getD xs i 0 < 0x80
 sevens-getD [] i h = omega arith
 sevens-getD (x ∷ xs) zero h = grind (arith, tells)
 sevens-getD (x ∷ xs) (suc i) h = sevens-getD xs i (and-parts (ltb x 0x80) (sevens xs) h .1)

@@ -18,6 +18,10 @@ is-address a = ltb a 0x10 || (eqb a 0x7E || eqb a 0x7F)
 abbrev pub is-id : List ℕ → Bool
 is-id i = eqb (length i) 5 && sevens i
 
+-- manufacturer (3), family (2), model (2) and revision (4): eleven bytes of seven bits
+abbrev pub is-identity : List ℕ → Bool
+is-identity i = eqb (length i) 11 && sevens i
+
 -- a Function Block is one of 0 to 31, or 127 for none in particular
 abbrev pub is-block : ℕ → Bool
 is-block n = leb n 31 || eqb n 127

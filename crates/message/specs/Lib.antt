@@ -8,3 +8,4 @@ pub mod Shapes
 pub mod Rows
 pub mod Sending
 pub mod Writing
+pub mod Laws

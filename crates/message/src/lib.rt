@@ -2,6 +2,7 @@
 pub mod address;
 pub mod bytes;
 pub mod identity;
+pub mod laws;
 pub mod listing;
 pub mod message;
 pub mod muid;

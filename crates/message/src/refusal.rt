@@ -35,7 +35,7 @@ impl Refusal {
     }
 
     /// What is wrong, in a short sentence.
-    pub fn sentence(self) -> &'static str {
+    fn sentence(self) -> &'static str {
         match self {
             Refusal::BufferTooSmall => "the buffer is too small",
             Refusal::NotFramed => "the bytes are not framed as a MIDI-CI message",
