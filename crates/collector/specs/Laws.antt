@@ -39,10 +39,16 @@ Tells-whole-messages =
 abbrev pub Tells-the-messages : Type 0
 Tells-the-messages = (buffer stream : List ℕ) → 512 ≤ length buffer → heard (new-with buffer) stream ≡ messages stream
 
--- From an F0h on the past is forgotten: the messages are those of the stream from there on, whatever came before.
+-- From an F0h on the past is forgotten: whatever came before, the messages are those of the stream from there on, ...
 abbrev pub Opening-forgets : Type 0
 Opening-forgets =
     (s : State) (stream : List ℕ) → 512 ≤ length (s .buffer) → heard s (0xF0 ∷ stream) ≡ messages (0xF0 ∷ stream)
+
+-- ... and they are told at the same bytes.
+abbrev pub Opening-answers : Type 0
+Opening-answers =
+    (s t : State) (stream : List ℕ) → 512 ≤ length (s .buffer) → 512 ≤ length (t .buffer)
+    → answers s (0xF0 ∷ stream) ≡ answers t (0xF0 ∷ stream)
 
 -- A byte from F8h on, wherever it is put in, changes no message.
 abbrev pub Real-time-skipped : Type 0

@@ -1,5 +1,6 @@
 //! The bytes of a cable, collected into whole System Exclusive messages.
 ghost use mathlib.Core.Path.{_≡_};
+ghost use Rattle.collector.specs.Laws.{Tells-the-messages};
 ghost use Rattle.collector.specs.Step.{feeds};
 ghost use Rattle.std.specs.declared.option.Option.the-variants.{None};
 use message::Refusal;
@@ -16,9 +17,10 @@ pub struct Collector {
 }
 
 impl Collector {
-    /// A collector with no open message.
+    /// A collector with no open message. Fed any stream, with one buffer, it tells exactly the messages that stand in the stream.
     pub fn new() -> Collector
-        ensures { λ r. ⌜ r .held ≡ None ⌝ }
+        ensures empty { λ r. ⌜ r .held ≡ None ⌝ }
+        ensures streams { λ _. ⌜ Tells-the-messages ⌝ }
     {
         Collector { held: None }
     }
