@@ -223,5 +223,5 @@ meaning (y ∷ stream) o rest fine r =
 pub tells-the-messages : Tells-the-messages
 tells-the-messages buffer stream r = meaning stream None buffer tt r
 
-pub opening-forgets : Opening-forgets
+pub opening-forgets : Opening-forgets 0xF0
 opening-forgets s stream r = opened stream (meaning stream) (s .held) (s .buffer) r

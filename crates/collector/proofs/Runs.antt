@@ -99,5 +99,5 @@ whole-in h (z ∷ rest) body r s few =
           ∙ ap (λ (m : ℕ). replicate (length (0xF0 ∷ body)) (Ok None) ++ (Ok (Some m) ∷ [])) (omega arith);
     }
 
-pub whole : Comes-out-whole
-whole s body r b few = whole-in (s .held) (s .buffer) body r b few
+pub whole : Comes-out-whole 512
+whole s body r b few = let k = length-push body 0xF7 in whole-in (s .held) (s .buffer) body r b (omega arith)

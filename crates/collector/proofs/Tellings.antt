@@ -18,7 +18,7 @@ use Rattle.message.specs.declared.refusal.Refusal.{Refusal}
 use Rattle.message.specs.declared.refusal.Refusal.the-variants.{BufferTooSmall}
 use Rattle.collector.specs.Step.{Fed, quiet, ended, goes-on, continues, feeds}
 use Rattle.collector.specs.Streams.{State, new-with, call, left, after, answers, told, heard, data-bytes, framed}
-use Rattle.collector.specs.Laws.{Message, Tells-whole-messages, Opening-answers, Real-time-skipped}
+use Rattle.collector.specs.Laws.{Message, Tells, Tells-whole-messages, Opening-answers, Real-time-skipped}
 use Rattle.collector.proofs.Runs.{opens, same-length}
 use Rattle.collector.proofs.Meanings.{either, state-of, Fine, skips, idles, drops, full-open, joins-open, ends-open, data-push, adds}
 
@@ -138,7 +138,7 @@ counts-told (Ok (Some n)) = 1
 counts-told (Ok None) = 0
 counts-told (Err e) = 0
 
-telling : (f : Fed) (n : ℕ) → Outcome f → f .answer ≡ Ok (Some n) → Message n (take n (f .buffer))
+telling : (f : Fed) (n : ℕ) → Outcome f → f .answer ≡ Ok (Some n) → Tells 2 n (take n (f .buffer))
 telling f n (inl g) e =
     let z : _≡_ {A = ℕ} 0 1 = ap counts-told (sym (ap (λ (x : Fed). x .answer) (g .is)) ∙ e) in
     absurd (omega arith)
@@ -148,15 +148,12 @@ telling f n (inr g) e =
     let shape : take n (f .buffer) ≡ framed (g .body) =
     ap (λ (b : List ℕ). take n b) (ap (λ (x : Fed). x .buffer) (g .is)) ∙ take-at (framed (g .body)) (g .rest) n m in
     record {
-      body = g .body;
-      shape = shape;
-      low = g .low;
-      long = ap length shape ∙ m;
+      message = record { body = g .body; shape = shape; low = g .low; long = ap length shape ∙ m };
       least = omega (arith, m);
       most = omega (arith, m, g .few);
     }
 
-pub tells-whole : Tells-whole-messages
+pub tells-whole : Tells-whole-messages 2
 tells-whole buffer stream y n r e =
     telling (call (after (new-with buffer) stream) y) n
     (outcome-of (after (new-with buffer) stream) y
@@ -173,7 +170,7 @@ passed-by s y stream p =
     (λ short. ap (λ (f : Fed). adds f stream) (refuses (s .held) y (s .buffer) short))
     (λ r. ap (λ (f : Fed). adds f stream) (skips (s .held) y (s .buffer) p r))
 
-pub real-time-skipped : Real-time-skipped
+pub real-time-skipped : Real-time-skipped 0xF8
 real-time-skipped s [] more y p = passed-by s y more p
 real-time-skipped s (x ∷ stream) more y p =
     ap (λ (ms : List (List ℕ)). told (call s x .answer) (call s x .buffer) ++ ms) (real-time-skipped (left (call s x)) stream more y p)
@@ -204,7 +201,7 @@ same-answers (y ∷ stream) h b d r q =
     (ap (λ (o : Option ℕ). answers (record { held = o; buffer = feeds h y b .buffer }) stream) (a .held)
     ∙ same-answers stream (feeds h y d .held) (feeds h y b .buffer) (feeds h y d .buffer) (omega arith) (omega arith))
 
-pub opening-answers : Opening-answers
+pub opening-answers : Opening-answers 0xF0
 opening-answers s t stream r q =
     let k = length-set (s .buffer) 0 0xF0 in
     let m = length-set (t .buffer) 0 0xF0 in

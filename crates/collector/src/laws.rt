@@ -1,36 +1,36 @@
-//! What holds of every stream of bytes: each function's contract is a law, and its body only carries it.
+//! What holds of every stream of bytes: the contract of each function is a law about the number that it tells.
 ghost use mathlib.Core.Path.{_≡_};
 ghost use Rattle.collector.specs.Laws.{Comes-out-whole, Tells-whole-messages, Opening-forgets, Opening-answers, Real-time-skipped};
 
-/// A message that nothing interrupts comes out whole, whatever came before it.
-pub fn messages_come_out_whole() -> u8
-    ensures law { λ _. ⌜ Comes-out-whole ⌝ }
-    ensures value { λ r. ⌜ r ≡ 0 ⌝ }
+/// The longest message that comes out whole: one that nothing interrupts does, whatever came before it.
+pub fn longest_message() -> usize
+    ensures value { λ r. ⌜ r ≡ 512 ⌝ }
+    ensures law { λ r. ⌜ Comes-out-whole r ⌝ }
 {
-    0
+    crate::LONGEST
 }
 
-/// What is told is always a message: F0h, bytes below 80h, F7h, 2 to 512 bytes.
-pub fn only_messages_are_told() -> u8
-    ensures law { λ _. ⌜ Tells-whole-messages ⌝ }
-    ensures value { λ r. ⌜ r ≡ 0 ⌝ }
+/// The shortest message that is told: all that is told begins with F0h, ends with F7h and holds bytes below 80h between.
+pub fn shortest_message() -> usize
+    ensures value { λ r. ⌜ r ≡ 2 ⌝ }
+    ensures law { λ r. ⌜ Tells-whole-messages r ⌝ }
 {
-    0
+    2
 }
 
-/// From an F0h on, what is told does not depend on what came before.
-pub fn opening_forgets_the_past() -> u8
-    ensures law { λ _. ⌜ Opening-forgets ⌝ }
-    ensures answers { λ _. ⌜ Opening-answers ⌝ }
-    ensures value { λ r. ⌜ r ≡ 0 ⌝ }
+/// The byte that opens a message: from there on, what is told does not depend on what came before.
+pub fn opening_byte() -> u8
+    ensures value { λ r. ⌜ r ≡ 0xF0 ⌝ }
+    ensures messages { λ r. ⌜ Opening-forgets r ⌝ }
+    ensures answers { λ r. ⌜ Opening-answers r ⌝ }
 {
-    0
+    0xF0
 }
 
-/// Real-time bytes, wherever they come, change no message.
-pub fn real_time_bytes_are_skipped() -> u8
-    ensures law { λ _. ⌜ Real-time-skipped ⌝ }
-    ensures value { λ r. ⌜ r ≡ 0 ⌝ }
+/// The first real-time byte: from this number on, bytes that come anywhere in a stream change no message.
+pub fn first_real_time_byte() -> u8
+    ensures value { λ r. ⌜ r ≡ 0xF8 ⌝ }
+    ensures law { λ r. ⌜ Real-time-skipped r ⌝ }
 {
-    0
+    0xF8
 }
