@@ -2,23 +2,20 @@
 use mathlib.Core.Path.{_≡_, refl, sym, _∙_, ap}
 use mathlib.Core.List.{List, [], _∷_, _++_, append-assoc}
 use mathlib.Core.Bool.{Bool, true, false, cond, _&&_}
-use mathlib.Core.Logic.{_⊎_, inl, inr, ⊎-elim}
-use Prim.Native.Nat.{ℕ, suc, _+_, _-_, _≤_, _<_}
+use mathlib.Core.Logic.{_⊎_, ⊎-elim}
+use Prim.Native.Nat.{ℕ, suc, _≤_, _<_}
 use native.Mathlib.Omega.{arith}
 use lib.Dec.{leb, ltb, eqb}
-use lib.ListN.{length, take, drop, set, replicate}
-use Rattle.std.proofs.shelf.Lists.{set-at, length-append, length-push, take-at, append-nil, length-set}
-use Rattle.std.proofs.shelf.Tests.{and-parts, and-from, ltb-true, lt-ltb, cond-true, cond-false, le-leb, lt-leb, eq-eqb, ne-eqb, cases-lt, cases-eq}
+use lib.ListN.{length}
+use Rattle.std.proofs.shelf.Lists.{length-append, length-push, take-at, append-nil}
+use Rattle.std.proofs.shelf.Tests.{and-parts, and-from, lt-ltb, cond-true, cond-false, le-leb, lt-leb, ne-eqb, cases-lt, cases-eq}
 use Rattle.std.proofs.shelf.Ways.{tells}
 use Rattle.std.specs.declared.option.Option.{Option}
 use Rattle.std.specs.declared.option.Option.the-variants.{Some, None}
-use Rattle.std.specs.declared.result.Result.{Result}
-use Rattle.std.specs.declared.result.Result.the-variants.{Ok, Err}
-use Rattle.message.specs.declared.refusal.Refusal.{Refusal}
-use Rattle.collector.specs.Step.{Fed, quiet, ended, goes-on, continues, feeds}
-use Rattle.collector.specs.Streams.{State, new-with, call, left, after, answers, told, heard, data-bytes, framed, without-real-time, body, closes, begun, begun-in, messages}
-use Rattle.collector.specs.Laws.{Tells-the-messages, Opening-forgets, Real-time-skipped}
-use Rattle.collector.proofs.Runs.{at, opens, joins-next, ends-next, same-length}
+use Rattle.collector.specs.Step.{Fed, quiet, ended, feeds}
+use Rattle.collector.specs.Streams.{State, left, told, heard, data-bytes, framed, without-real-time, body, closes, begun, begun-in}
+use Rattle.collector.specs.Laws.{Tells-the-messages, Opening-forgets}
+use Rattle.collector.proofs.Runs.{opens, joins-next, ends-next, same-length}
 
 pub either : {P Q R : Type 0} → P ⊎ Q → (P → R) → (Q → R) → R
 either s f g = ⊎-elim f g s
@@ -72,10 +69,6 @@ becomes-ended : (xs ys : List ℕ) → length xs ≤ 510 → becomes xs (0xF7 �
 becomes-ended xs ys p =
     let F : List ℕ → List (List ℕ) = λ bs. cond (leb (length bs) 510) (framed bs ∷ []) [] in
     ap F (append-nil xs) ∙ cond-true (leb (length xs) 510) (framed xs ∷ []) [] (le-leb (length xs) 510 p)
-
--- an F0h begins one
-begins : (ys : List ℕ) → begun-in (0xF0 ∷ ys) ≡ becomes [] ys ++ begun-in ys
-begins ys = refl
 
 passes : (y : ℕ) (ys : List ℕ) → (y ≡ 0xF0 → ⊥) → begun-in (y ∷ ys) ≡ begun-in ys
 passes y ys p = cond-false (eqb y 0xF0) (begun ys ++ begun-in ys) (begun-in ys) (ne-eqb y 0xF0 p)

@@ -1,21 +1,21 @@
 -- Streams fed to a collector.
 use mathlib.Core.Path.{_≡_, refl, sym, _∙_, ap}
 use mathlib.Core.List.{List, [], _∷_, _++_, append-assoc}
-use mathlib.Core.Bool.{Bool, true, false, cond, _&&_}
-use Prim.Native.Nat.{ℕ, suc, _+_, _-_, _≤_, _<_}
+use mathlib.Core.Bool.{true}
+use Prim.Native.Nat.{ℕ, _+_, _≤_, _<_}
 use native.Mathlib.Omega.{arith}
-use lib.Dec.{leb, ltb, eqb}
-use lib.ListN.{length, take, drop, set, replicate}
-use Rattle.std.proofs.shelf.Lists.{set-at, length-append, length-push, take-at}
+use lib.Dec.{ltb}
+use lib.ListN.{length, drop, set, replicate}
+use Rattle.std.proofs.shelf.Lists.{set-at, length-append, length-push}
 use Rattle.std.proofs.shelf.Tests.{and-parts, ltb-true}
 use Rattle.std.proofs.shelf.Ways.{tells}
 use Rattle.std.specs.declared.option.Option.{Option}
 use Rattle.std.specs.declared.option.Option.the-variants.{Some, None}
 use Rattle.std.specs.declared.result.Result.{Result}
-use Rattle.std.specs.declared.result.Result.the-variants.{Ok, Err}
+use Rattle.std.specs.declared.result.Result.the-variants.{Ok}
 use Rattle.message.specs.declared.refusal.Refusal.{Refusal}
-use Rattle.collector.specs.Step.{Fed, quiet, ended, goes-on, continues, feeds}
-use Rattle.collector.specs.Streams.{State, new-with, call, left, after, answers, told, heard, data-bytes, framed, messages}
+use Rattle.collector.specs.Step.{Fed, quiet, ended, feeds}
+use Rattle.collector.specs.Streams.{State, left, after, answers, data-bytes}
 use Rattle.collector.specs.Laws.{Whole, Comes-out-whole}
 
 -- a buffer whose front is given

@@ -1,14 +1,13 @@
 -- What each call tells.
 use mathlib.Core.Path.{_≡_, refl, sym, _∙_, ap, subst}
 use mathlib.Core.List.{List, [], _∷_, _++_}
-use mathlib.Core.Bool.{Bool, true, false, cond, _&&_}
+use mathlib.Core.Bool.{true}
 use mathlib.Core.Logic.{_⊎_, inl, inr}
-use Prim.Native.Nat.{ℕ, suc, _+_, _≤_, _<_}
+use Prim.Native.Nat.{ℕ, _≤_, _<_}
 use native.Mathlib.Omega.{arith}
-use lib.Dec.{leb, ltb, eqb}
 use lib.ListN.{length, take, set}
 use Rattle.std.proofs.shelf.Lists.{length-append, length-push, take-at, length-set}
-use Rattle.std.proofs.shelf.Tests.{cond-true, lt-ltb, cases-lt, cases-eq}
+use Rattle.std.proofs.shelf.Tests.{cases-lt, cases-eq}
 use Rattle.std.proofs.shelf.Ways.{tells}
 use Rattle.std.specs.declared.option.Option.{Option}
 use Rattle.std.specs.declared.option.Option.the-variants.{Some, None}
@@ -16,9 +15,9 @@ use Rattle.std.specs.declared.result.Result.{Result}
 use Rattle.std.specs.declared.result.Result.the-variants.{Ok, Err}
 use Rattle.message.specs.declared.refusal.Refusal.{Refusal}
 use Rattle.message.specs.declared.refusal.Refusal.the-variants.{BufferTooSmall}
-use Rattle.collector.specs.Step.{Fed, quiet, ended, goes-on, continues, feeds}
+use Rattle.collector.specs.Step.{Fed, quiet, ended, feeds}
 use Rattle.collector.specs.Streams.{State, new-with, call, left, after, answers, told, heard, data-bytes, framed}
-use Rattle.collector.specs.Laws.{Message, Tells, Tells-whole-messages, Opening-answers, Real-time-skipped}
+use Rattle.collector.specs.Laws.{Tells, Tells-whole-messages, Opening-answers, Real-time-skipped}
 use Rattle.collector.proofs.Runs.{opens, same-length}
 use Rattle.collector.proofs.Meanings.{either, state-of, Fine, skips, idles, drops, full-open, joins-open, ends-open, data-push, adds}
 

@@ -6,8 +6,7 @@ use Prim.Native.Nat.{ℕ, _≤_}
 use lib.ListN.{length, take, drop, replicate}
 use Rattle.std.specs.declared.option.Option.the-variants.{Some, None}
 use Rattle.std.specs.declared.result.Result.the-variants.{Ok}
-use Rattle.collector.specs.Step.{Fed}
-use Rattle.collector.specs.Streams.{State, new-with, call, left, after, answers, heard, data-bytes, framed, messages}
+use Rattle.collector.specs.Streams.{State, new-with, call, after, answers, heard, data-bytes, framed, messages}
 
 -- A message comes out whole: no message is open after it, it stands at the buffer's front, the rest of the buffer is as it was, and its
 -- length is told at its F7h and at no byte before.
