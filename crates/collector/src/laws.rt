@@ -1,6 +1,6 @@
 //! What holds of every stream of bytes: the contract of each function is a law about the number that it tells.
 ghost use mathlib.Core.Path.{_≡_};
-ghost use Rattle.collector.specs.Laws.{Comes-out-whole, Tells-whole-messages, Opening-forgets, Opening-answers, Real-time-skipped};
+ghost use Rattle.collector.specs.Laws.{Comes-out-whole, Tells-the-messages, Tells-whole-messages, Opening-forgets, Opening-answers, Real-time-skipped};
 
 /// The longest message that comes out whole: one that nothing interrupts does, whatever came before it.
 pub fn longest_message() -> usize
@@ -10,10 +10,12 @@ pub fn longest_message() -> usize
     crate::LONGEST
 }
 
-/// The shortest message that is told: all that is told begins with F0h, ends with F7h and holds bytes below 80h between.
+/// The shortest message that is told: all that is told begins with F0h, ends with F7h and holds bytes below 80h between, and it is exactly
+/// what stands in the stream.
 pub fn shortest_message() -> usize
     ensures value { λ r. ⌜ r ≡ 2 ⌝ }
-    ensures law { λ r. ⌜ Tells-whole-messages r ⌝ }
+    ensures whole { λ r. ⌜ Tells-whole-messages r ⌝ }
+    ensures exact { λ _. ⌜ Tells-the-messages ⌝ }
 {
     2
 }

@@ -1,6 +1,5 @@
 //! The bytes of a cable, collected into whole System Exclusive messages.
 ghost use mathlib.Core.Path.{_≡_};
-ghost use Rattle.collector.specs.Laws.{Tells-the-messages};
 ghost use Rattle.std.specs.declared.option.Option.the-variants.{None};
 
 mod feeding;
@@ -16,10 +15,9 @@ pub struct Collector {
 }
 
 impl Collector {
-    /// A collector with no open message. Fed any stream, with one buffer, it tells exactly the messages that stand in the stream.
+    /// A collector with no open message.
     pub fn new() -> Collector
-        ensures empty { λ r. ⌜ r .held ≡ None ⌝ }
-        ensures streams { λ _. ⌜ Tells-the-messages ⌝ }
+        ensures { λ r. ⌜ r .held ≡ None ⌝ }
     {
         Collector { held: None }
     }
