@@ -4,8 +4,8 @@ use Rattle.std.proofs.shelf.Ways.{tells}
 use Rattle.message.specs.Bytes.{sevens}
 use Rattle.message.proofs.bytes.all_seven_bits.Needs as need
 
-pub returns-then-byte-ge128 : need.returns-then-byte-ge128
-returns-then-byte-ge128 c =
+pub returns-then-not-has-seven-bits : need.returns-then-not-has-seven-bits
+returns-then-not-has-seven-bits c =
     let e = at-drop-more sevens (c .args .bytes .now) (c .loop-byte .byte-index) 0 (omega arith) in
     grind (arith, tells)
 
