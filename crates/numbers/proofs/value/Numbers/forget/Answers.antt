@@ -1,0 +1,23 @@
+use mathlib.Core.Path.{_≡_}
+use mathlib.Core.Bool.{true}
+use Prim.Native.Nat.{_≤_}
+use native.Mathlib.Omega.{arith}
+use lib.ListN.{take, length}
+use Rattle.numbers.proofs.Device.{has-without, usable-without}
+use Rattle.numbers.proofs.value.Numbers.forget.Needs as need
+
+pub ghost-self : need.ghost-self
+ghost-self c =
+    let m = c .args .self .now in
+    let xs = take (m .count) (m .others) in
+    let done = c .remove-count .ensures in
+    let room : m .count ≤ length (m .others) = omega (arith, m .within) in
+    let e = done .value room (m .up) in
+    let w = done .fits room in
+    let n = c .args .number in (
+      omega arith,
+      (
+        done .still (m .up),
+        (m .usable, (rw e (usable-without n xs (m .fit)), (rw e (has-without (m .own) n xs (m .apart)), tt))),
+      ),
+    )
