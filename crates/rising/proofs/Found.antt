@@ -24,6 +24,6 @@ module _ {X : Type 0} (key : X → Key) (x : X) (xs : List X) where
   holds-by up (Ok i) h = sym (holds-stands key xs x i h)
   holds-by up (Err i) h = sym (holds-absent key xs x (absent-from-gap key xs x i (h .1 up)))
 
-  pub found-by : Rising key xs → (r : Result ℕ ℕ) → Searched r → options.mapped (λ i. getD xs i x) (results.okPart r) ≡ found key x xs
-  found-by up (Ok i) h = sym (found-stands key xs x i x up h)
-  found-by up (Err i) h = sym (found-absent key xs x (absent-from-gap key xs x i (h .1 up)))
+  pub found-by : Rising key xs → (d : X) (r : Result ℕ ℕ) → Searched r → options.mapped (λ i. getD xs i d) (results.okPart r) ≡ found key x xs
+  found-by up d (Ok i) h = sym (found-stands key xs x i d up h)
+  found-by up d (Err i) h = sym (found-absent key xs x (absent-from-gap key xs x i (h .1 up)))

@@ -52,7 +52,7 @@ pub fn find<T: Keyed>(list: &[T], x: &T) -> Option<usize>
     ensures place { λ r. ⌜ BySome r (Rising key (now (list .entry)) → Absent key (now (x .entry)) (now (list .entry))) (Stands key (now (x .entry)) (now (list .entry))) ⌝ }
     ensures only { λ _. ⌜ (Rising key (now (list .entry)) → (i j : ℕ) → Stands key (now (x .entry)) (now (list .entry)) i → Stands key (now (x .entry)) (now (list .entry)) j → i ≡ j) ⌝ }
     ensures some { λ r. ⌜ (Rising key (now (list .entry)) → isSome r ≡ holds key (now (x .entry)) (now (list .entry))) ⌝ }
-    ensures content { λ r. ⌜ (Rising key (now (list .entry)) → mapped (λ i. getD (now (list .entry)) i (now (x .entry))) r ≡ found key (now (x .entry)) (now (list .entry))) ⌝ }
+    ensures content { λ r. ⌜ (Rising key (now (list .entry)) → (d : T) → mapped (λ i. getD (now (list .entry)) i d) r ≡ found key (now (x .entry)) (now (list .entry))) ⌝ }
 {
     search(list, x).ok()
 }
@@ -115,5 +115,67 @@ pub fn remove<T: Keyed + Copy>(slots: &mut [T], count: usize, x: &T) -> usize
             count - 1
         }
         Err(_) => count,
+    }
+}
+
+#[cfg(test)]
+mod tests {
+    use super::*;
+    use std::test::*;
+
+    #[test]
+    fn found_at_either_end() -> Result<(), Fail> {
+        let list = [2, 3, 5, 7];
+        check_eq(find(&list, &2), Some(0))?;
+        check_eq(find(&list, &7), Some(3))?;
+        check_eq(find(&list, &1), None)?;
+        check_eq(find(&list, &4), None)?;
+        check_eq(find(&list, &8), None)?;
+        check_eq(find(&list[0..1], &2), Some(0))?;
+        check_eq(find(&list[0..0], &2), None)
+    }
+
+    #[test]
+    fn rises_strictly() -> Result<(), Fail> {
+        let list = [1, 2, 2, 0];
+        check(rises(&list[0..0])).note("none")?;
+        check(rises(&list[0..1])).note("one")?;
+        check(rises(&list[0..2])).note("two")?;
+        check(!rises(&list[0..3])).note("equal")?;
+        check(!rises(&list[2..4])).note("falling")
+    }
+
+    #[test]
+    fn enters_in_place() -> Result<(), Fail> {
+        let mut slots = [0, 0, 0, 9];
+        check_eq(enter(&mut slots, 0, 5), 1)?;
+        check_eq(slots, [5, 0, 0, 9]).note("into none")?;
+        check_eq(enter(&mut slots, 1, 7), 2)?;
+        check_eq(slots, [5, 7, 0, 9]).note("last")?;
+        check_eq(enter(&mut slots, 2, 3), 3)?;
+        check_eq(slots, [3, 5, 7, 9]).note("first")?;
+        check_eq(enter(&mut slots, 3, 5), 3)?;
+        check_eq(slots, [3, 5, 7, 9]).note("there already")?;
+        check_eq(enter(&mut slots, 3, 6), 4)?;
+        check_eq(slots, [3, 5, 6, 7]).note("the last place")?;
+        check_eq(enter(&mut slots, 4, 1), 4)?;
+        check_eq(enter(&mut slots, 5, 1), 5)?;
+        check_eq(slots, [3, 5, 6, 7]).note("full")
+    }
+
+    #[test]
+    fn removes_and_closes_the_gap() -> Result<(), Fail> {
+        let mut slots = [3, 5, 7, 9];
+        check_eq(remove(&mut slots, 5, &5), 5)?;
+        check_eq(remove(&mut slots, 4, &4), 4)?;
+        check_eq(slots, [3, 5, 7, 9]).note("absent")?;
+        check_eq(remove(&mut slots, 4, &3), 3)?;
+        check_eq(slots, [5, 7, 9, 3]).note("first")?;
+        check_eq(remove(&mut slots, 3, &9), 2)?;
+        check_eq(slots, [5, 7, 9, 3]).note("last")?;
+        check_eq(remove(&mut slots, 2, &5), 1)?;
+        check_eq(remove(&mut slots, 1, &7), 0)?;
+        check_eq(remove(&mut slots, 0, &7), 0)?;
+        check_eq(slots, [7, 5, 9, 3]).note("none left")
     }
 }
