@@ -1,7 +1,7 @@
 -- Device numbers (MUIDs): which are usable, which are taken, and the first that is free.
 use mathlib.Core.Path.{_≡_}
 use mathlib.Core.List.{List, [], _∷_}
-use mathlib.Core.Bool.{Bool, true, false, cond, _&&_, _||_}
+use mathlib.Core.Bool.{Bool, true, false, cond, not, _&&_, _||_}
 use Prim.Native.Nat.{ℕ, zero, suc, _+_, _%_, _<_, _≤_}
 use lib.Dec.{eqb, ltb}
 use lib.ListN.{length}
@@ -34,9 +34,13 @@ abbrev pub all-usable : List ℕ → Bool
 all-usable [] = true
 all-usable (x ∷ xs) = ltb x 268435200 && all-usable xs
 
+-- n can be another device's number: it is usable, and not the own
+abbrev pub other : ℕ → ℕ → Bool
+other own n = ltb n 268435200 && not (eqb n own)
+
 -- the list after a device is heard of: an unusable number, the own, a listed one or a full list leave it as it is
 abbrev pub noted : ℕ → ℕ → List ℕ → List ℕ
-noted own n xs = cond (ltb n 268435200) (cond (eqb n own) xs (entering 32 number n xs)) xs
+noted own n xs = cond (other own n) (entering 32 number n xs) xs
 
 -- the list after a device is gone: a number that is not listed leaves it as it is
 abbrev pub forgotten : ℕ → List ℕ → List ℕ

@@ -7,6 +7,7 @@ use Rattle.std.specs.Options as options
 use Rattle.std.specs.Results as results
 use Rattle.std.specs.declared.result.Result.{Result}
 use Rattle.std.specs.declared.result.Result.the-variants.{Ok, Err}
+use Rattle.std.specs.declared.option.Option.the-variants.{Some, None}
 use Rattle.rising.specs.Order.{Key}
 use Rattle.rising.specs.Lists.{Rising, Stands, Absent, Gap, holds, found}
 use Rattle.rising.proofs.Lists.{absent-from-gap, found-absent, found-stands, holds-absent, holds-stands}
@@ -24,6 +25,6 @@ module _ {X : Type 0} (key : X → Key) (x : X) (xs : List X) where
   holds-by up (Ok i) h = sym (holds-stands key xs x i h)
   holds-by up (Err i) h = sym (holds-absent key xs x (absent-from-gap key xs x i (h .1 up)))
 
-  pub found-by : Rising key xs → (d : X) (r : Result ℕ ℕ) → Searched r → options.mapped (λ i. getD xs i d) (results.okPart r) ≡ found key x xs
-  found-by up d (Ok i) h = sym (found-stands key xs x i d up h)
-  found-by up d (Err i) h = sym (found-absent key xs x (absent-from-gap key xs x i (h .1 up)))
+  pub found-by : (r : Result ℕ ℕ) → Searched r → options.Cases (results.okPart r) (Rising key xs → found key x xs ≡ None) (λ i. Rising key xs → (d : X) → found key x xs ≡ Some (getD xs i d))
+  found-by (Ok i) h = λ up d. found-stands key xs x i d up h
+  found-by (Err i) h = λ up. found-absent key xs x (absent-from-gap key xs x i (h .1 up))

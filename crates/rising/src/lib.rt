@@ -3,8 +3,9 @@ ghost use mathlib.Core.Path.{_≡_};
 ghost use mathlib.Core.List.{List, [], _∷_, _++_};
 ghost use Prim.Native.Nat.{ℕ, _+_, _<_, _≤_};
 ghost use lib.ListN.{length, getD, take, drop};
-ghost use Rattle.std.specs.Options.{Cases as BySome, isSome, mapped};
+ghost use Rattle.std.specs.Options.{Cases as BySome, isSome};
 ghost use Rattle.std.specs.Orderings.{Ranked};
+ghost use Rattle.std.specs.declared.option.Option.the-variants.{Some, None};
 ghost use Rattle.std.specs.Results.{Cases as ByOk};
 ghost use Rattle.rising.specs.Order.{Key, Before};
 ghost use Rattle.rising.specs.Lists.{rising, Rising, holds, found, Stands, Absent, Gap, entering, without, having};
@@ -52,7 +53,7 @@ pub fn find<T: Keyed>(list: &[T], x: &T) -> Option<usize>
     ensures place { λ r. ⌜ BySome r (Rising key (now (list .entry)) → Absent key (now (x .entry)) (now (list .entry))) (Stands key (now (x .entry)) (now (list .entry))) ⌝ }
     ensures only { λ _. ⌜ (Rising key (now (list .entry)) → (i j : ℕ) → Stands key (now (x .entry)) (now (list .entry)) i → Stands key (now (x .entry)) (now (list .entry)) j → i ≡ j) ⌝ }
     ensures some { λ r. ⌜ (Rising key (now (list .entry)) → isSome r ≡ holds key (now (x .entry)) (now (list .entry))) ⌝ }
-    ensures content { λ r. ⌜ (Rising key (now (list .entry)) → (d : T) → mapped (λ i. getD (now (list .entry)) i d) r ≡ found key (now (x .entry)) (now (list .entry))) ⌝ }
+    ensures content { λ r. ⌜ BySome r (Rising key (now (list .entry)) → found key (now (x .entry)) (now (list .entry)) ≡ None) (λ i. Rising key (now (list .entry)) → (d : T) → found key (now (x .entry)) (now (list .entry)) ≡ Some (getD (now (list .entry)) i d)) ⌝ }
 {
     search(list, x).ok()
 }

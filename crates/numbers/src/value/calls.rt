@@ -5,7 +5,7 @@ ghost use mathlib.Core.List.{[], _∷_};
 ghost use Prim.Native.Nat.{_%_, _<_, _≤_};
 ghost use lib.ListN.{length};
 ghost use Rattle.rising.specs.Lists.{Rising};
-ghost use Rattle.numbers.specs.Device.{number, Usable, Reserved, broadcast, has, all-usable, noted, forgotten, next, renewed, First};
+ghost use Rattle.numbers.specs.Device.{number, Usable, Reserved, broadcast, has, all-usable, other, noted, forgotten, next, renewed, First};
 ghost use Rattle.numbers.specs.Model.{own-of, listed-of};
 use super::Numbers;
 use rising::NumberKeyed;
@@ -70,12 +70,19 @@ impl Numbers {
         number == self.own || self.is_listed(number)
     }
 
+    // Whether the number can be another device's.
+    fn is_other(&self, number: u32) -> bool
+        ensures { λ r. ⌜ r ≡ other (own-of (now (self .entry))) number ⌝ }
+    {
+        number < USABLE && number != self.own
+    }
+
     /// Lists a device. The own number, one that is not usable or is listed, and a full list change nothing.
     pub fn note(&mut self, number: u32)
         ensures own { λ _. ⌜ own-of (now (self .exit)) ≡ own-of (now (self .entry)) ⌝ }
         ensures list { λ _. ⌜ listed-of (now (self .exit)) ≡ noted (own-of (now (self .entry))) number (listed-of (now (self .entry))) ⌝ }
     {
-        if number < USABLE && number != self.own {
+        if self.is_other(number) {
             let mut others = self.others;
             let count = enter(&mut others, self.count, number);
             *self = Numbers {
@@ -121,5 +128,59 @@ impl Numbers {
             others: self.others,
             count: self.count,
         };
+    }
+}
+
+#[cfg(test)]
+mod tests {
+    use super::*;
+    use std::test::*;
+
+    #[test]
+    fn the_draw_wraps() -> Result<(), Fail> {
+        check_eq(Numbers::start(268_435_200).own(), 0)?;
+        check_eq(Numbers::start(268_435_199).own(), 268_435_199)?;
+        check_eq(Numbers::start(4_294_967_295).own(), 4_095)
+    }
+
+    #[test]
+    fn renewing_goes_round() -> Result<(), Fail> {
+        let mut numbers = Numbers::start(268_435_200);
+        numbers.note(268_435_199);
+        numbers.renew(268_435_199);
+        check_eq(numbers.own(), 1).note("the last is listed, and 0 was the own")?;
+        numbers.renew(268_435_199);
+        check_eq(numbers.own(), 0).note("0 is free again")?;
+        check(numbers.is_listed(268_435_199))
+    }
+
+    #[test]
+    fn what_is_not_listed() -> Result<(), Fail> {
+        let mut numbers = Numbers::start(5);
+        numbers.note(5);
+        numbers.note(268_435_200);
+        numbers.note(268_435_455);
+        numbers.note(7);
+        numbers.note(7);
+        numbers.forget(6);
+        check_eq(numbers.listed().len(), 1)?;
+        check(numbers.is_listed(7))?;
+        check_eq(numbers.own(), 5)
+    }
+
+    #[test]
+    fn a_freed_place_is_used_again() -> Result<(), Fail> {
+        let mut numbers = Numbers::start(100);
+        for device in 0..32 {
+            numbers.note(device);
+        }
+        check_eq(numbers.listed().len(), 32)?;
+        numbers.note(32);
+        check(!numbers.is_listed(32)).note("the list is full")?;
+        numbers.forget(16);
+        check_eq(numbers.listed().len(), 31)?;
+        numbers.note(33);
+        check(numbers.is_listed(33) && !numbers.is_listed(16))?;
+        check_eq(numbers.listed().len(), 32)
     }
 }

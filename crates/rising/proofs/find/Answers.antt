@@ -24,5 +24,5 @@ returns g c =
       place = rw e (place-by key x xs r is);
       only = stands-once key xs x;
       some = λ up. rw e (holds-by key x xs up r is);
-      content = λ up d. rw e (found-by key x xs up d r is);
+      content = rw e (found-by key x xs r is);
     }

@@ -13,11 +13,10 @@ ghost-self c =
     let done = c .remove-count .ensures in
     let room : m .count ≤ length (m .others) = omega (arith, m .within) in
     let e = done .value room (m .up) in
-    let w = done .fits room in
-    let n = c .args .number in (
+    let w = done .fits room in (
       omega arith,
       (
         done .still (m .up),
-        (m .usable, (rw e (usable-without n xs (m .fit)), (rw e (has-without (m .own) n xs (m .apart)), tt))),
+        (m .usable, (rw e (usable-without _ xs (m .fit)), (rw e (has-without (m .own) _ xs (m .apart)), tt))),
       ),
     )
