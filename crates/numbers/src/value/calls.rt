@@ -2,7 +2,7 @@
 ghost use mathlib.Core.Path.{_≡_};
 ghost use mathlib.Core.Bool.{true, false};
 ghost use mathlib.Core.List.{[], _∷_};
-ghost use Prim.Native.Nat.{_%_, _<_, _≤_};
+ghost use Prim.Native.Nat.{ℕ, _%_, _<_, _≤_};
 ghost use lib.ListN.{length};
 ghost use Rattle.rising.specs.Lists.{Rising};
 ghost use Rattle.numbers.specs.Device.{number, Usable, Reserved, broadcast, has, all-usable, other, noted, forgotten, next, renewed, First};
@@ -81,6 +81,8 @@ impl Numbers {
     pub fn note(&mut self, number: u32)
         ensures own { λ _. ⌜ own-of (now (self .exit)) ≡ own-of (now (self .entry)) ⌝ }
         ensures list { λ _. ⌜ listed-of (now (self .exit)) ≡ noted (own-of (now (self .entry))) number (listed-of (now (self .entry))) ⌝ }
+        ensures arrives { λ _. ⌜ (Usable number → (number ≡ own-of (now (self .entry)) → ⊥) → length (listed-of (now (self .entry))) < 32 → has number (listed-of (now (self .exit))) ≡ true) ⌝ }
+        ensures others { λ _. ⌜ ((m : ℕ) → (m ≡ number → ⊥) → has m (listed-of (now (self .exit))) ≡ has m (listed-of (now (self .entry)))) ⌝ }
     {
         if self.is_other(number) {
             let mut others = self.others;
@@ -97,6 +99,8 @@ impl Numbers {
     pub fn forget(&mut self, number: u32)
         ensures own { λ _. ⌜ own-of (now (self .exit)) ≡ own-of (now (self .entry)) ⌝ }
         ensures list { λ _. ⌜ listed-of (now (self .exit)) ≡ forgotten number (listed-of (now (self .entry))) ⌝ }
+        ensures gone { λ _. ⌜ has number (listed-of (now (self .exit))) ≡ false ⌝ }
+        ensures others { λ _. ⌜ ((m : ℕ) → (m ≡ number → ⊥) → has m (listed-of (now (self .exit))) ≡ has m (listed-of (now (self .entry)))) ⌝ }
     {
         let mut others = self.others;
         let count = remove(&mut others, self.count, &number);

@@ -18,7 +18,7 @@ returns-then-count-slots g c =
     let x = c .args .x in
     let s = c .args .slots .now in
     let n = c .args .count in
-    let e : take n s ≡ entering (length s) key x (take n s) = enters-full key x s n (c .if-count-slots .taken) in
+    let e : take n s ≡ entering (length s) key x (take n s) = enters-full key x s n (omega (arith, c .if-count-slots .taken)) in
     record {
       whole = inl (refl, refl);
       value = λ up. e;

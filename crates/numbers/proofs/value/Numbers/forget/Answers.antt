@@ -1,9 +1,11 @@
-use mathlib.Core.Path.{_≡_}
+use borrow.Author.Needs.{needs}
+use mathlib.Core.Path.{_≡_, refl, ap, _∙_}
 use mathlib.Core.Bool.{true}
 use Prim.Native.Nat.{_≤_}
 use native.Mathlib.Omega.{arith}
 use lib.ListN.{take, length}
-use Rattle.numbers.proofs.Device.{has-without, usable-without}
+use Rattle.numbers.specs.Device.{has, forgotten}
+use Rattle.numbers.proofs.Device.{has-without, usable-without, forgotten-gone, forgotten-others}
 use Rattle.numbers.proofs.value.Numbers.forget.Needs as need
 
 pub ghost-self : need.ghost-self
@@ -20,3 +22,16 @@ ghost-self c =
         (m .usable, (rw e (usable-without _ xs (m .fit)), (rw e (has-without (m .own) _ xs (m .apart)), tt))),
       ),
     )
+
+pub returns : need.returns
+returns c =
+    let m = c .args .self .now in
+    let n = c .args .number in
+    let xs = take (m .count) (m .others) in
+    let list : take (c .remove-count .result) (c .remove-count .last .slots) ≡ forgotten n xs = search needs in
+    record {
+      own = refl;
+      list = list;
+      gone = ap (has n) list ∙ forgotten-gone n xs;
+      others = λ k ne. ap (has k) list ∙ forgotten-others n k xs ne;
+    }

@@ -1,11 +1,12 @@
-use mathlib.Core.Path.{_≡_, sym}
+use borrow.Author.Needs.{needs}
+use mathlib.Core.Path.{_≡_, refl, ap, sym, _∙_}
 use mathlib.Core.Bool.{true, not}
 use native.Mathlib.Omega.{arith}
 use lib.Dec.{ltb, eqb}
 use lib.ListN.{take}
 use Rattle.std.proofs.shelf.Tests.{and-parts, not-true}
-use Rattle.numbers.specs.Device.{other}
-use Rattle.numbers.proofs.Device.{has-entering, usable-entering}
+use Rattle.numbers.specs.Device.{other, has, noted}
+use Rattle.numbers.proofs.Device.{has-entering, usable-entering, noted-has, noted-others}
 use Rattle.numbers.proofs.value.Numbers.note.Needs as need
 
 pub ghost-self : need.ghost-self
@@ -30,3 +31,16 @@ ghost-self c =
         ),
       ),
     )
+
+pub returns-then-is-other : need.returns-then-is-other
+returns-then-is-other c =
+    let m = c .args .self .now in
+    let n = c .args .number in
+    let xs = take (m .count) (m .others) in
+    let list : take (c .enter-count .result) (c .enter-count .last .slots) ≡ noted (m .own) n xs = search needs in
+    record {
+      own = refl;
+      list = list;
+      arrives = λ fit ne room. ap (has n) list ∙ noted-has (m .own) n xs fit ne room;
+      others = λ k ne. ap (has k) list ∙ noted-others (m .own) n k xs ne;
+    }
