@@ -7,7 +7,7 @@ use Prim.Native.Nat.{ℕ, suc, _+_}
 use native.Mathlib.Omega.{arith}
 use lib.Dec.{ltb}
 use lib.ListN.{length}
-use Rattle.std.proofs.shelf.Tests.{or-parts, both-ways, cases-bool, cond-both, cond-true, cond-false}
+use Rattle.std.proofs.shelf.Tests.{or-parts, both-ways, cases-bool, cond-both, cond-true, cond-false, lt-ltb, le-ltb}
 use Rattle.std.proofs.shelf.Edits.{length-removed}
 use Rattle.std.specs.declared.option.Option.the-variants.{Some, None}
 use Rattle.rising.specs.Order.{Key, before, Before, same-key}
@@ -56,8 +56,8 @@ module _ {X : Type 0} (key : X → Key) where
 
   pub enters-lawful : (room : ℕ) (x : X) (xs : List X) → Rising key xs → Enters key room x xs (entering room key x xs)
   enters-lawful room x xs up = record {
-    arrives = λ t h. rw (cond-true (ltb (length xs) room) (entered key x xs) xs t) (arrives-entered x xs h);
-    full = λ t. cond-false (ltb (length xs) room) (entered key x xs) xs t;
+    arrives = λ t h. rw (cond-true (ltb (length xs) room) (entered key x xs) xs (lt-ltb (length xs) room t)) (arrives-entered x xs h);
+    full = λ t. cond-false (ltb (length xs) room) (entered key x xs) xs (le-ltb (length xs) room t);
     there = λ h. cond-both (ltb (length xs) room) (entered key x xs) xs (λ zs. zs ≡ xs) (λ _. entered-there x xs up h) (λ _. refl);
     others = λ z ne. cond-both (ltb (length xs) room) (entered key x xs) xs (λ zs. found key z zs ≡ found key z xs) (λ _. others-entered x xs z ne) (λ _. refl);
     still = cond-both (ltb (length xs) room) (entered key x xs) xs (λ zs. Rising key zs) (λ _. rising-entered key x xs up) (λ _. up);

@@ -3,7 +3,7 @@ use mathlib.Core.Logic.{inl, inr}
 use Prim.Native.Nat.{_+_, _<_, _≤_}
 use native.Mathlib.Omega.{arith}
 use native.Mathlib.Nat.{sub-zero}
-use lib.ListN.{length, take}
+use lib.ListN.{length, take, drop}
 use Rattle.std.proofs.shelf.Lists.{length-take-le}
 use Rattle.rising.specs.Lists.{Rising, Gap, Stands, entering}
 use Rattle.rising.specs.Laws.{Enters}
@@ -20,11 +20,11 @@ returns-then-count-slots g c =
     let n = c .args .count in
     let e : take n s ≡ entering (length s) key x (take n s) = enters-full key x s n (omega (arith, c .if-count-slots .taken)) in
     record {
-      whole = inl (refl, refl);
+      whole = inl (refl {a = n}, refl {a = s});
       value = λ up. e;
-      rest = refl;
+      rest = refl {a = drop n s};
       fits = λ l. l;
-      long = refl;
+      long = refl {a = length s};
       still = λ up. up;
       laws = λ up. subst (λ zs. Enters key (length s) x (take n s) zs) (sym e) (enters-lawful key (length s) x (take n s) up);
     }
@@ -38,11 +38,11 @@ returns-in-Ok g c =
     let here : Stands key x (take n s) (c .in-Ok .field-0) = rw sub-zero at (c .in-Ok .ensures tt) in
     let e : Rising key (take n s) → take n s ≡ entering (length s) key x (take n s) = λ up. enters-not key x s n _ up here in
     record {
-      whole = inl (refl, refl);
+      whole = inl (refl {a = n}, refl {a = s});
       value = e;
-      rest = refl;
+      rest = refl {a = drop n s};
       fits = λ l. l;
-      long = refl;
+      long = refl {a = length s};
       still = λ up. up;
       laws = λ up. subst (λ zs. Enters key (length s) x (take n s) zs) (sym (e up)) (enters-lawful key (length s) x (take n s) up);
     }

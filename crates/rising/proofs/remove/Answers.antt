@@ -46,11 +46,11 @@ returns-in-Err g c =
     let told : (_ ≤ length (take n s)) × (Rising key (take n s) → Gap key x (take n s) (c .in-Err .field-0)) = rw sub-zero at (c .in-Err .ensures tt) in
     let e : Rising key (take n s) → take n s ≡ without key x (take n s) = λ up. without-kept key x s n _ (told .1 up) in
     record {
-      whole = inl (refl, refl);
+      whole = inl (refl {a = n}, refl {a = s});
       value = λ _ up. e up;
       freed = λ _ up. having-kept key x s n _ (told .1 up);
       fits = λ l. l;
-      long = refl;
+      long = refl {a = length s};
       still = λ up. up;
       laws = λ _ up. subst (λ zs. Leaves key x (take n s) zs) (sym (e up)) (leaves-lawful key x (take n s) up);
     }
