@@ -1,19 +1,15 @@
 -- What the list of devices keeps.
-use mathlib.Core.Path.{_≡_, refl, sym, ap, subst, _∙_}
+use mathlib.Core.Path.{_≡_, refl, sym, ap}
 use mathlib.Core.List.{List, [], _∷_}
-use mathlib.Core.Bool.{Bool, true, false, cond, _&&_, _||_}
-use mathlib.Core.Logic.{_⊎_, inl, inr, ⊎-elim}
-use Prim.Native.Nat.{ℕ, zero, suc, zero-le, _+_, _-_, _<_, _≤_}
+use mathlib.Core.Bool.{true, false, cond}
+use mathlib.Core.Logic.{_⊎_, ⊎-elim}
+use Prim.Native.Nat.{ℕ, _-_, _<_}
 use native.Mathlib.Omega.{arith}
 use lib.Dec.{eqb, ltb}
-use lib.ListN.{length, getD, take}
-use Rattle.std.proofs.shelf.Tests.{and-parts, and-from, cases-bool, cases-eq, cond-both, eq-eqb, ne-eqb, or-from, or-left, or-right, lt-ltb}
-use Rattle.std.proofs.shelf.Lists.{length-take}
+use lib.ListN.{length, getD}
+use Rattle.std.proofs.shelf.Tests.{and-parts, cases-bool, cond-both, eq-eqb, ne-eqb, or-left, or-right, lt-ltb}
 use Rattle.std.proofs.shelf.Ways.{tells}
-use Rattle.std.specs.Options as options
-use Rattle.std.specs.declared.option.Option.{Option}
-use Rattle.std.specs.declared.option.Option.the-variants.{Some, None}
-use Rattle.rising.specs.Order.{Key, before, same-key}
+use Rattle.rising.specs.Order.{before, same-key}
 use Rattle.rising.specs.Lists.{entered, entering, without, holds}
 use Rattle.rising.proofs.Order.{before-same}
 use Rattle.numbers.specs.Device.{number, has, all-usable, other, noted, forgotten}

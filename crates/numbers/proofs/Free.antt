@@ -1,13 +1,13 @@
 -- The search for a free number ends: in a list of f numbers, not all of n and the f after it can stand.
-use mathlib.Core.Path.{_≡_, refl, sym, ap, subst, _∙_}
+use mathlib.Core.Path.{_≡_, refl, sym, ap, _∙_}
 use mathlib.Core.List.{List, [], _∷_}
-use mathlib.Core.Bool.{Bool, true, false, cond, _&&_, _||_}
+use mathlib.Core.Bool.{true, false, cond}
 use mathlib.Core.Logic.{_⊎_, inl, inr, ⊎-elim}
 use Prim.Native.Nat.{ℕ, zero, suc, zero-le, _+_, _-_, _%_, _<_, _≤_}
 use native.Mathlib.Omega.{arith}
-use lib.Dec.{eqb, ltb}
+use lib.Dec.{eqb}
 use lib.ListN.{length}
-use Rattle.std.proofs.shelf.Tests.{both-ways, cond-both, cases-bool, cases-eq, eqb-true, eqb-false}
+use Rattle.std.proofs.shelf.Tests.{both-ways, cases-bool, eqb-true, eqb-false}
 use Rattle.std.proofs.shelf.Ways.{tells}
 use Rattle.numbers.specs.Device.{has, next, free-from, First}
 
@@ -99,10 +99,6 @@ found-within (suc f) xs n (suc j) h e =
     (λ (t : (has n xs ≡ false)). (rw (t, t), rw t, rw t))
     (cases-bool (has n xs))
 
-module _ (xs : List ℕ) (few : length xs < 268435200) where
-  pub free-found : (n : ℕ) → n < 268435200 → has (free-from (length xs) xs n) xs ≡ false
-  free-found n l = let j = free-near (length xs) xs n l few (omega arith) in found-within (length xs) xs n (j .0) (j .1) (j .2) .0
-
 step-over : (f : ℕ) (ys : List ℕ) (n j : ℕ) → j ≤ suc f → has (ahead j n) ys ≡ false → has n ys ≡ true → (free-from (suc f) ys (next n) ≡ free-from (suc f) ys n) × (steps (suc f) ys (next n) < steps (suc f) ys n)
 step-over f ys n zero h e t = absurd (both-ways (has n ys) e t)
 step-over f ys n (suc j) h e t =
@@ -118,11 +114,6 @@ passed [] n few l t = absurd (grind arith)
 passed (x ∷ xs) n few l t =
     let j = free-near (length (x ∷ xs)) (x ∷ xs) n l few (omega arith) in
     step-over (length xs) (x ∷ xs) n (j .0) (j .1) (j .2) t
-
-pub free-usable : (f : ℕ) (xs : List ℕ) (n : ℕ) → n < 268435200 → free-from f xs n < 268435200
-unfolding free-from
-free-usable zero xs n l = l
-free-usable (suc f) xs n l = cond-both (has n xs) (free-from f xs (next n)) n (λ m. m < 268435200) (λ _. free-usable f xs (next n) (next-usable n l)) (λ _. l)
 
 pub free-here : (f : ℕ) (xs : List ℕ) (n : ℕ) → has n xs ≡ false → free-from f xs n ≡ n
 unfolding free-from

@@ -1,16 +1,16 @@
 -- The laws of entering and removing hold of the definitions.
 use mathlib.Core.Path.{_≡_, refl, sym, ap, _∙_}
 use mathlib.Core.List.{List, [], _∷_}
-use mathlib.Core.Bool.{Bool, true, false, cond, _||_}
-use mathlib.Core.Logic.{_⊎_, inl, inr, ⊎-elim}
-use Prim.Native.Nat.{ℕ, suc, _+_}
+use mathlib.Core.Bool.{true, false, cond}
+use mathlib.Core.Logic.{_⊎_, ⊎-elim}
+use Prim.Native.Nat.{ℕ, _+_}
 use native.Mathlib.Omega.{arith}
 use lib.Dec.{ltb}
 use lib.ListN.{length}
 use Rattle.std.proofs.shelf.Tests.{or-parts, both-ways, cases-bool, cond-both, cond-true, cond-false, lt-ltb, le-ltb}
 use Rattle.std.proofs.shelf.Edits.{length-removed}
 use Rattle.std.specs.declared.option.Option.the-variants.{Some, None}
-use Rattle.rising.specs.Order.{Key, before, Before, same-key}
+use Rattle.rising.specs.Order.{Key, before, same-key}
 use Rattle.rising.specs.Lists.{Rising, holds, found, entered, entering, without}
 use Rattle.rising.specs.Laws.{Enters, Leaves}
 use Rattle.rising.proofs.Order.{before-same, same-refl, same-eq, same-from, differs-from}

@@ -1,21 +1,19 @@
 -- What rising lists keep.
-use mathlib.Core.Path.{_≡_, refl, sym, ap, subst, _∙_}
+use mathlib.Core.Path.{_≡_, refl, sym, ap, _∙_}
 use mathlib.Core.List.{List, [], _∷_, _++_}
-use mathlib.Core.Bool.{Bool, true, false, cond, _&&_, _||_}
-use mathlib.Core.Logic.{_⊎_, inl, inr, ⊎-elim}
-use Prim.Native.Nat.{ℕ, zero, suc, zero-le, suc-le-suc, _+_, _-_, _<_, _≤_}
+use mathlib.Core.Bool.{true, false}
+use mathlib.Core.Logic.{_⊎_, ⊎-elim}
+use Prim.Native.Nat.{ℕ, zero, suc, zero-le, _+_, _-_, _<_, _≤_}
 use native.Mathlib.Omega.{arith}
-use lib.Dec.{eqb, ltb}
 use lib.ListN.{length, getD, take, drop}
 use Rattle.std.proofs.shelf.Tests.{and-parts, and-from, or-from, or-left, or-right, or-cases, both-ways, cases-bool, cases-lt}
 use Rattle.std.specs.Holes.{inserted, removed}
-use Rattle.std.proofs.shelf.Lists.{getD-default, length-take-le, getD-take, getD-read, take-more, take-all}
+use Rattle.std.proofs.shelf.Lists.{getD-default, length-take-le, getD-take, getD-read, take-more}
 use Rattle.std.proofs.shelf.Elements.{at-read}
-use Rattle.std.proofs.shelf.Ways.{tells}
 use Rattle.std.specs.declared.option.Option.the-variants.{Some, None}
 use Rattle.rising.specs.Order.{Key, before, Before, same-key}
-use Rattle.rising.specs.Lists.{leads, rising, Rising, holds, found, Stands, Absent, Gap, entered, entering, without, having}
-use Rattle.rising.proofs.Order.{before-irrefl, before-trans, before-asym, before-same, same-refl, same-eq, same-from, differs-from, differs-below, differs-above}
+use Rattle.rising.specs.Lists.{leads, rising, Rising, holds, found, Stands, Absent, Gap, entered, without, having}
+use Rattle.rising.proofs.Order.{before-irrefl, before-trans, before-asym, same-eq, same-from, differs-from, differs-below}
 
 module _ {X : Type 0} (key : X → Key) where
   pub leads-at : (x : X) (xs : List X) → leads key x xs ≡ true → (j : ℕ) (d : X) → j < length xs → Before (key x) (key (getD xs j d))

@@ -1,11 +1,11 @@
 -- The order of keys is strict and total, and `cmp` on arrays of numbers answers by it.
-use mathlib.Core.Path.{_≡_, refl, sym, ap, _∙_}
+use mathlib.Core.Path.{_≡_, refl, sym}
 use mathlib.Core.List.{List, [], _∷_}
-use mathlib.Core.Bool.{Bool, true, false, cond}
-use mathlib.Core.Logic.{_⊎_, inl, inr, ⊎-elim}
+use mathlib.Core.Bool.{true, false}
+use mathlib.Core.Logic.{_⊎_, ⊎-elim}
 use Prim.Native.Nat.{ℕ, _<_}
 use native.Mathlib.Omega.{arith}
-use lib.Dec.{eqb, ltb}
+use lib.Dec.{eqb}
 use Rattle.std.specs.Lexical.{Lex}
 use Rattle.std.specs.Orderings.{Ranked}
 use Rattle.std.specs.declared.cmp.Ordering.{Ordering}
@@ -82,6 +82,3 @@ differs-from x y n =
 
 pub differs-below : (x y : Key) → Before x y → same-key x y ≡ false
 differs-below x y b = differs-from x y (λ e. both-ways (before y y) (before-irrefl y) (rw e at b))
-
-pub differs-above : (x y : Key) → Before y x → same-key x y ≡ false
-differs-above x y b = differs-from x y (λ e. both-ways (before y y) (before-irrefl y) (rw e at b))

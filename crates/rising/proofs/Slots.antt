@@ -1,20 +1,19 @@
 -- What an edit of the slots in use leaves in all of them.
 use mathlib.Core.Path.{_≡_, refl, sym, ap, _∙_}
 use mathlib.Core.List.{List, [], _∷_, _++_, append-assoc}
-use mathlib.Core.Logic.{_⊎_, inl, inr}
 use Prim.Native.Nat.{ℕ, suc, _+_, _-_, _<_, _≤_}
 use native.Mathlib.Omega.{arith}
 use lib.Dec.{ltb}
 use lib.ListN.{length, getD, take, drop, set}
 use borrow.Rule.Slice.PartMut.{putMid}
 use Rattle.std.specs.Holes.{inserted, removed}
-use Rattle.std.proofs.shelf.Lists.{length-append, length-take, length-take-le, length-set, length-drop, length-push, take-all, take-at, drop-at, take-take, drop-drop, take-more-set, take-set-le, drop-set-lt, drop-append-le, getD-take, take-append-drop}
+use Rattle.std.proofs.shelf.Lists.{length-append, length-take, length-take-le, length-drop, length-push, take-all, take-at, drop-at, take-take, drop-drop, take-more-set, take-set-le, drop-set-lt, drop-append-le, getD-take}
 use Rattle.std.proofs.shelf.Edits.{length-inserted, length-removed}
 use Rattle.std.proofs.shelf.Parts.{between-is}
 use Rattle.std.proofs.shelf.Tests.{cond-below, cond-above, cond-both}
 use Rattle.rising.specs.Order.{Key}
 use Rattle.rising.specs.Lists.{Rising, Stands, Gap, entered, entering, without, having}
-use Rattle.rising.specs.Slots.{Kept, Put, Taken}
+use Rattle.rising.specs.Slots.{Put, Taken}
 use Rattle.rising.proofs.Lists.{entered-at, entered-present, without-absent, without-at, having-absent, having-at, absent-from-gap}
 
 module _ {X : Type 0} where

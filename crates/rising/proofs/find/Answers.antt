@@ -1,13 +1,5 @@
-use mathlib.Core.Path.{_≡_, sym}
-use Prim.Native.Nat.{ℕ}
-use mathlib.Core.List.{List}
-use lib.ListN.{getD}
-use Rattle.std.specs.Options as options
-use Rattle.std.specs.Results as results
-use Rattle.std.specs.declared.result.Result.{Result}
-use Rattle.std.specs.declared.result.Result.the-variants.{Ok, Err}
 use Rattle.rising.specs.Order.{Key}
-use Rattle.rising.specs.Lists.{Rising, Stands, Absent, Gap, holds, found}
+use Rattle.rising.specs.Lists.{holds, found}
 use Rattle.rising.proofs.Lists.{stands-once}
 use Rattle.rising.proofs.Found.{found-by, holds-by, place-by}
 use Rattle.rising.proofs.find.Needs as need

@@ -1,6 +1,6 @@
 use mathlib.Core.Path.{_≡_, refl, sym, ap, subst, _∙_}
 use mathlib.Core.Logic.{inl, inr}
-use Prim.Native.Nat.{_+_, _-_, _<_, _≤_}
+use Prim.Native.Nat.{_-_, _<_, _≤_}
 use native.Mathlib.Omega.{arith}
 use native.Mathlib.Nat.{sub-zero}
 use lib.ListN.{length, take}
@@ -9,7 +9,6 @@ use Rattle.rising.specs.Lists.{Rising, Gap, Stands, without}
 use Rattle.rising.specs.Laws.{Leaves}
 use Rattle.rising.specs.Slots.{Taken}
 use Rattle.rising.proofs.Laws.{leaves-lawful}
-use Rattle.rising.proofs.Lists.{rising-without}
 use Rattle.rising.proofs.Slots.{slots-taken, without-taken, having-taken, length-taken, without-kept, having-kept}
 use Rattle.rising.proofs.remove.Needs as need
 

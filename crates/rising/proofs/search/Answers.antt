@@ -1,5 +1,4 @@
 use native.Mathlib.Omega.{arith}
-use borrow.Author.Needs.{needs}
 use Rattle.rising.proofs.Lists.{low-more, high-more}
 use Rattle.rising.proofs.search.Needs as need
 
