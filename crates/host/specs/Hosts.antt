@@ -9,9 +9,9 @@ use Rattle.std.specs.shelf.Text.{sameBytes}
 use Rattle.std.specs.declared.option.Option.{Option}
 use Rattle.std.specs.declared.option.Option.the-variants.{Some, None}
 use Rattle.rising.specs.Lists.{entered}
-use Rattle.message.specs.Rows.{ranged}
+use Rattle.message.specs.Rows.{row-key, ranged}
 use Rattle.message.specs.declared.row.Row.{Row}
-use Rattle.host.specs.Rows.{row, row-key, same, look, has, without-row, tally, Sound}
+use Rattle.host.specs.Rows.{row, same, look, has, without-row, tally, Sound}
 
 -- What a host consents to, by address and ID: that the row goes on, that it goes off, and which other IDs at its address its on puts off.
 pub record Consents : Type 0 where

@@ -8,18 +8,13 @@ use lib.ListN.{length}
 use Rattle.std.specs.shelf.Text.{sameBytes}
 use Rattle.std.specs.declared.option.Option.{Option}
 use Rattle.std.specs.declared.option.Option.the-variants.{Some, None}
-use Rattle.rising.specs.Order.{Key}
 use Rattle.rising.specs.Lists.{Rising}
-use Rattle.message.specs.Rows.{keep, all-ranged}
+use Rattle.message.specs.Rows.{row-key, keep, all-ranged}
 use Rattle.message.specs.declared.row.Row.{Row}
 
 -- the row of that address, ID and state
 abbrev pub row : ℕ → List ℕ → Bool → Row
 row a i on = record { address = a; id = i; on = on }
-
--- rows stand in the order of their addresses, and at one address of their ID bytes
-abbrev pub row-key : Row → Key
-row-key r = r .address ∷ r .id
 
 -- whether a row is the one with that address and ID
 abbrev pub same : ℕ → List ℕ → Row → Bool

@@ -3,8 +3,13 @@ use mathlib.Core.List.{List, [], _∷_}
 use mathlib.Core.Bool.{Bool, true, false, not, _&&_, cond}
 use Prim.Native.Nat.{ℕ}
 use lib.Dec.{eqb}
+use Rattle.rising.specs.Order.{Key}
 use Rattle.message.specs.Bytes.{is-address, is-id}
 use Rattle.message.specs.declared.row.Row.{Row}
+
+-- rows stand in the order of their addresses, and at one address of their ID bytes
+abbrev pub row-key : Row → Key
+row-key r = r .address ∷ r .id
 
 -- the rows that pass a test
 abbrev pub keep : (Row → Bool) → List Row → List Row
