@@ -9,7 +9,9 @@ use Rattle.message.specs.Codes.{code, status-code}
 use Rattle.message.specs.Messages.{Fields, muid}
 use Rattle.message.specs.Rows.{part}
 use Rattle.message.specs.declared.row.Row.{Row}
+use Rattle.message.specs.declared.identity.Identity.{Identity}
 use Rattle.message.specs.declared.sub_id.SubId.{SubId}
+use Rattle.message.specs.declared.sub_id.NakStatus.{NakStatus}
 use Rattle.message.specs.declared.sent.Sent.{Sent}
 use Rattle.message.specs.declared.sent.Sent.the-variants.{Discovery, DiscoveryReply, InvalidateMuid, Enabled, Disabled, Added, Removed, Nak}
 
@@ -28,18 +30,44 @@ supports = 0x04 ∷ 0x00 ∷ 0x04 ∷ 0x00 ∷ 0x00 ∷ []
 abbrev pub channels : ℕ → List ℕ
 channels a = cond (ltb a 0x10) 0x01 0x00 ∷ 0x00 ∷ []
 
+-- a device makes itself known
+abbrev pub discover : Identity → (own : ℕ) → Fields
+discover d own = sends own 0x7F SubId.Discovery everyone (d .bytes ++ (supports ++ 0x00 ∷ []))
+
+-- and answers another that did, with that one's Output Path Id
+abbrev pub discover-reply : Identity → (own to path : ℕ) → Fields
+discover-reply d own to path = sends own 0x7F SubId.ReplyToDiscovery to (d .bytes ++ (supports ++ path ∷ d .block ∷ []))
+
+-- a MUID is no longer valid
+abbrev pub invalidate : (own target : ℕ) → Fields
+invalidate own target = sends own 0x7F SubId.InvalidateMuid everyone (muid target)
+
+-- the state of a row
+abbrev pub report : (own address : ℕ) → (id : List ℕ) → (on : Bool) → Fields
+report own a i on = sends own a (cond on SubId.ProfileEnabledReport SubId.ProfileDisabledReport) everyone (i ++ channels a)
+
+-- a row is new, or gone
+abbrev pub added-report : (own address : ℕ) → (id : List ℕ) → Fields
+added-report own a i = sends own a SubId.ProfileAddedReport everyone i
+
+abbrev pub removed-report : (own address : ℕ) → (id : List ℕ) → Fields
+removed-report own a i = sends own a SubId.ProfileRemovedReport everyone i
+
+-- an inquiry of that Sub-ID fails a check
+abbrev pub nak-reply : (own to address sub : ℕ) → NakStatus → Fields
+nak-reply own to a sub status =
+    sends own a SubId.Nak to (sub ∷ status-code status ∷ 0x00 ∷ 0x00 ∷ 0x00 ∷ 0x00 ∷ 0x00 ∷ 0x00 ∷ 0x00 ∷ 0x00 ∷ [])
+
 -- the fields of a message that is sent from the own number
 abbrev pub meant : ℕ → Sent → Fields
-meant own (Discovery identity) = sends own 0x7F SubId.Discovery everyone (identity .bytes ++ (supports ++ 0x00 ∷ []))
-meant own (DiscoveryReply to identity path) = sends own 0x7F SubId.ReplyToDiscovery (to .number) (identity .bytes ++ (supports ++ path ∷ identity .block ∷ []))
-meant own (InvalidateMuid target) = sends own 0x7F SubId.InvalidateMuid everyone (muid (target .number))
-meant own (Enabled address id) = sends own (address .byte) SubId.ProfileEnabledReport everyone (id .bytes ++ channels (address .byte))
-meant own (Disabled address id) = sends own (address .byte) SubId.ProfileDisabledReport everyone (id .bytes ++ channels (address .byte))
-meant own (Added address id) = sends own (address .byte) SubId.ProfileAddedReport everyone (id .bytes)
-meant own (Removed address id) = sends own (address .byte) SubId.ProfileRemovedReport everyone (id .bytes)
-meant own (Nak to address sub status) =
-    sends own (address .byte) SubId.Nak (to .number)
-    (sub ∷ status-code status ∷ 0x00 ∷ 0x00 ∷ 0x00 ∷ 0x00 ∷ 0x00 ∷ 0x00 ∷ 0x00 ∷ 0x00 ∷ [])
+meant own (Discovery identity) = discover identity own
+meant own (DiscoveryReply to identity path) = discover-reply identity own (to .number) path
+meant own (InvalidateMuid target) = invalidate own (target .number)
+meant own (Enabled address id) = report own (address .byte) (id .bytes) true
+meant own (Disabled address id) = report own (address .byte) (id .bytes) false
+meant own (Added address id) = added-report own (address .byte) (id .bytes)
+meant own (Removed address id) = removed-report own (address .byte) (id .bytes)
+meant own (Nak to address sub status) = nak-reply own (to .number) (address .byte) sub status
 
 -- the IDs of rows, one after the other
 abbrev pub ids-of : List Row → List ℕ
