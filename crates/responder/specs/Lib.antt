@@ -1,0 +1,4 @@
+pub mod Inquiries
+pub mod Plans
+pub mod Actions
+pub mod Steps

@@ -1,0 +1,3 @@
+//! The responder: start, announce and take, over any host.
+mod action;
+mod deciding;
