@@ -1,4 +1,5 @@
 -- The plan that an action stands for.
+use mathlib.Core.Path.{_≡_}
 use mathlib.Core.List.{List, [], _∷_, map}
 use mathlib.Core.Bool.{Bool, _||_, cond}
 use Prim.Native.Nat.{ℕ}
@@ -6,8 +7,12 @@ use lib.Dec.{eqb, ltb}
 use Rattle.std.specs.declared.result.Result.{Result}
 use Rattle.std.specs.declared.result.Result.the-variants.{Ok, Err}
 use Rattle.message.specs.Codes.{code}
-use Rattle.message.specs.Kinds.{least}
+use Rattle.message.specs.Kinds.{least, kind}
+use Rattle.message.specs.Messages.{Fields}
+use Rattle.message.specs.Reading.{kind-of}
+use Rattle.message.specs.Shapes.{Shaped}
 use Rattle.message.specs.Sending.{discover, discover-reply, invalidate, nak-reply, profile-list}
+use Rattle.message.specs.declared.message.Message.{Message}
 use Rattle.message.specs.declared.identity.Identity.{Identity}
 use Rattle.message.specs.declared.refusal.Refusal.{Refusal}
 use Rattle.message.specs.declared.row.Row.{Row}
@@ -43,3 +48,18 @@ module _ (d : Identity) (own : ℕ) (others : List ℕ) (l : List Row) (draw : �
   abbrev pub decided : Result Action Refusal → Plan
   decided (Ok action) = action-plan action
   decided (Err e) = refuse e
+
+-- the header of a message, without its body
+abbrev pub header-of : Message → (source : ℕ) → Fields
+header-of m source =
+    record { address = m .address; sub = m .«sub_id»; version = m .version; source = source; destination = m .destination; body = [] }
+
+-- a message that was read shows the fields of its bytes
+pub record Shows (m : Message) (q : Fields) : Type 0 where
+  pub address : m .address ≡ q .address
+  pub sub : m .«sub_id» ≡ q .sub
+  pub version : m .version ≡ q .version
+  pub source : m .source ≡ q .source
+  pub destination : m .destination ≡ q .destination
+  pub holds : kind-of (m .content) ≡ kind q
+  pub shaped : Shaped (kind-of (m .content))

@@ -1,13 +1,34 @@
 //! What to do with a message: decisions that change nothing.
 ghost use mathlib.Core.Path.{_≡_};
-ghost use mathlib.Core.Bool.{_||_};
-ghost use mathlib.Core.List.{List};
+ghost use mathlib.Core.Bool.{_||_, true, false, cond};
+ghost use mathlib.Core.List.{List, [], _∷_};
 ghost use Prim.Native.Nat.{ℕ, _≤_, _<_};
-ghost use lib.Dec.{eqb};
-ghost use lib.ListN.{length};
-ghost use Rattle.responder.specs.Actions.{sorted};
-ghost use Rattle.responder.specs.Inquiries.{for-us-by};
+ghost use lib.Dec.{eqb, leb};
+ghost use lib.ListN.{length, getD};
+ghost use Rattle.std.specs.Options.{Cases as BySome};
+ghost use Rattle.rising.specs.Lists.{Rising};
+ghost use Rattle.message.specs.Bytes.{is-address};
+ghost use Rattle.message.specs.Messages.{Fields};
+ghost use Rattle.message.specs.Rows.{row-key};
+ghost use Rattle.message.specs.declared.identity.Identity.{Identity};
+ghost use Rattle.message.specs.declared.row.Row.{Row};
+ghost use Rattle.host.specs.Rows.{has as listed, Sound};
+ghost use Rattle.message.specs.Sending.{discover-reply};
+ghost use Rattle.numbers.specs.Device.{has, noted};
+ghost use Rattle.responder.specs.Actions.{decided, header-of, sorted, Shows};
+ghost use Rattle.responder.specs.Inquiries.{fault, for-us-by, supported};
+ghost use Rattle.responder.specs.Plans.{denying, inquiring, send, turn};
+use crate::action::Action;
 use crate::action::Sorted;
+use host::find_row;
+use message::Address;
+use message::Content;
+use message::Message;
+use message::Muid;
+use message::NakStatus;
+use message::ProfileId;
+use message::Refusal;
+use message::Row;
 use message::least_length;
 
 /// The number that means every device.
@@ -40,5 +61,122 @@ fn is_for_us(own: u32, destination: u32, sub: u8) -> bool
         _ if destination == own => true,
         0x24..=0x27 | 0x70 | 0x7E => destination == BROADCAST,
         _ => false,
+    }
+}
+
+/// Whether an inquiry of that Sub-ID is answered.
+fn is_supported(sub: u8) -> bool
+    ensures { λ r. ⌜ r ≡ has sub supported ⌝ }
+{
+    matches!(sub, 0x20 | 0x22 | 0x23 | 0x70)
+}
+
+/// The address of a NAK: the inquiry's, or the Function Block where that is none.
+fn nak_address(address: u8) -> Address
+    ensures { λ r. ⌜ r .byte ≡ cond (is-address address) address 0x7F ⌝ }
+{
+    match Address::new(address) {
+        Some(known) => known,
+        None => Address::function_block(),
+    }
+}
+
+/// A NAK for an inquiry that fails a check, or a refusal where the inquiry is a Discovery to every device.
+fn deny(status: NakStatus, to: Muid, m: Message<'_>) -> Result<Action, Refusal>
+    ensures { λ r. ⌜ ((d : Identity) (own : ℕ) (others : List ℕ) (l : List Row) (draw : ℕ) → decided d own others l draw r ≡ denying d own others l status (header-of (m .entry) (to .number))) ⌝ }
+{
+    if m.sub_id == 0x70 && m.destination == BROADCAST {
+        return Err(Refusal::NotUnderstood);
+    }
+    Ok(Action::Deny {
+        to,
+        address: nak_address(m.address),
+        sub_id: m.sub_id,
+        status,
+    })
+}
+
+/// Five bytes that were read.
+fn five_bytes(part: &[u8]) -> Option<[u8; 5]>
+    ensures { λ r. ⌜ BySome r (length (now (part .entry)) ≡ 5 → ⊥) (λ five. five ≡ now (part .entry)) ⌝ }
+{
+    if part.len() != 5 {
+        return None;
+    }
+    Some([part[0], part[1], part[2], part[3], part[4]])
+}
+
+/// The ID of the row to switch, if there is such a row.
+fn listed_id(rows: &[Row], address: u8, id: [u8; 5]) -> Option<ProfileId>
+    ensures { λ r. ⌜ (Sound (now (rows .entry)) → BySome r (listed (now (rows .entry)) address id ≡ false) (λ p. (p .bytes ≡ id) × (listed (now (rows .entry)) address id ≡ true))) ⌝ }
+{
+    match find_row(rows, address, id) {
+        Some(_) => ProfileId::new(id),
+        None => None,
+    }
+}
+
+/// What to do with an inquiry to switch a row.
+fn switch(
+    rows: &[Row],
+    to: Muid,
+    m: Message<'_>,
+    address: Address,
+    id: &[u8],
+    on: bool,
+) -> Result<Action, Refusal>
+    ensures { λ r. ⌜ ((d : Identity) (own : ℕ) (others : List ℕ) (draw : ℕ) → Sound (now (rows .entry)) → length (now (id .entry)) ≡ 5 → decided d own others (now (rows .entry)) draw r ≡ cond (listed (now (rows .entry)) (address .byte) (now (id .entry))) (turn (address .byte) (now (id .entry)) on) (denying d own others (now (rows .entry)) NakStatus.NoSuchProfile (header-of (m .entry) (to .number)))) ⌝ }
+{
+    let Some(id) = five_bytes(id) else {
+        return deny(NakStatus::Malformed, to, m);
+    };
+    match listed_id(rows, address.byte, id) {
+        Some(id) => Ok(Action::Switch { address, id, on }),
+        None => deny(NakStatus::NoSuchProfile, to, m),
+    }
+}
+
+/// The Output Path Id of a Discovery, which version 1 does not have.
+fn path_of(version: u8, body: &[u8]) -> u8
+    ensures { λ r. ⌜ r ≡ cond (leb version 1) 0x00 (getD (now (body .entry)) 16 0) ⌝ }
+{
+    if version <= 1 {
+        return 0x00;
+    }
+    if body.len() <= 16 { 0x00 } else { body[16] }
+}
+
+/// What to do with a Discovery, which is for the whole device.
+fn discovered(from: Muid, m: Message<'_>, body: &[u8]) -> Result<Action, Refusal>
+    ensures { λ r. ⌜ ((d : Identity) (own : ℕ) (others : List ℕ) (l : List Row) (draw : ℕ) → decided d own others l draw r ≡ cond (eqb (m .entry .address) 0x7F) (send (discover-reply d own (from .number) (cond (leb (m .entry .version) 1) 0x00 (getD (now (body .entry)) 16 0)) ∷ []) own (noted own (from .number) others)) (denying d own others l NakStatus.Malformed (header-of (m .entry) (from .number)))) ⌝ }
+{
+    if m.address != 0x7F {
+        return deny(NakStatus::Malformed, from, m);
+    }
+    Ok(Action::Discovered {
+        from,
+        path: path_of(m.version, body),
+    })
+}
+
+/// What to do with an inquiry.
+fn inquire(rows: &[Row], to: Muid, m: Message<'_>) -> Result<Action, Refusal>
+    ensures { λ r. ⌜ ((d : Identity) (own : ℕ) (others : List ℕ) (draw : ℕ) (q : Fields) → Sound (now (rows .entry)) → Shows (m .entry) q → to .number ≡ q .source → decided d own others (now (rows .entry)) draw r ≡ inquiring d own others (now (rows .entry)) (fault (now (rows .entry)) q) q) ⌝ }
+{
+    if m.version == 0 {
+        return deny(NakStatus::WrongVersion, to, m);
+    }
+    if !is_supported(m.sub_id) {
+        return deny(NakStatus::NotSupported, to, m);
+    }
+    let Some(address) = Address::new(m.address) else {
+        return deny(NakStatus::Malformed, to, m);
+    };
+    match m.content {
+        Content::ProfileInquiry => Ok(Action::List { to, address }),
+        Content::SetOn(id) => switch(rows, to, m, address, id, true),
+        Content::SetOff(id) => switch(rows, to, m, address, id, false),
+        Content::Discovery(body) => discovered(to, m, body),
+        _ => deny(NakStatus::Malformed, to, m),
     }
 }
