@@ -24,6 +24,7 @@ pub use message::Message;
 pub use muid::Muid;
 pub use profile_id::ProfileId;
 pub use reading::least_length;
+pub use reading::muid_number;
 pub use reading::read;
 pub use refusal::Refusal;
 pub use row::Row;

@@ -10,7 +10,7 @@ use crate::message::Message;
 use crate::refusal::Refusal;
 
 /// The number that four bytes of seven bits say, lowest first.
-fn muid(a: u8, b: u8, c: u8, d: u8) -> u32
+pub fn muid_number(a: u8, b: u8, c: u8, d: u8) -> u32
     ensures { λ r. ⌜ r ≡ a + b * 0x80 + c * 0x4000 + d * 0x200000 ⌝ }
 {
     a as u32 + b as u32 * 0x80 + c as u32 * 0x4000 + d as u32 * 0x20_0000
@@ -99,8 +99,8 @@ pub fn read(message: &[u8]) -> Result<Message<'_>, Refusal>
         address: *address,
         sub_id: *sub,
         version: *version,
-        source: muid(rest[0], rest[1], rest[2], rest[3]),
-        destination: muid(rest[4], rest[5], rest[6], rest[7]),
+        source: muid_number(rest[0], rest[1], rest[2], rest[3]),
+        destination: muid_number(rest[4], rest[5], rest[6], rest[7]),
         content: content(*sub, *version, &rest[8..length - 7]),
     })
 }

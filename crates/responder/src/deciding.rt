@@ -8,16 +8,17 @@ ghost use lib.ListN.{length, getD};
 ghost use Rattle.std.specs.Options.{Cases as BySome};
 ghost use Rattle.rising.specs.Lists.{Rising};
 ghost use Rattle.message.specs.Bytes.{is-address};
-ghost use Rattle.message.specs.Messages.{Fields};
+ghost use Rattle.message.specs.Messages.{Fields, fields, framed, number-at};
+ghost use Rattle.message.specs.Kinds.{too-short};
 ghost use Rattle.message.specs.Rows.{row-key};
 ghost use Rattle.message.specs.declared.identity.Identity.{Identity};
 ghost use Rattle.message.specs.declared.row.Row.{Row};
 ghost use Rattle.host.specs.Rows.{has as listed, Sound};
-ghost use Rattle.message.specs.Sending.{discover-reply};
-ghost use Rattle.numbers.specs.Device.{has, noted};
-ghost use Rattle.responder.specs.Actions.{decided, header-of, sorted, Shows};
-ghost use Rattle.responder.specs.Inquiries.{fault, for-us-by, supported};
-ghost use Rattle.responder.specs.Plans.{denying, inquiring, send, turn};
+ghost use Rattle.message.specs.Sending.{discover, discover-reply, invalidate};
+ghost use Rattle.numbers.specs.Device.{forgotten, has, noted, renewed};
+ghost use Rattle.responder.specs.Actions.{action-plan, decided, header-of, sorted, Shows};
+ghost use Rattle.responder.specs.Inquiries.{fault, for-us-by, supported, target};
+ghost use Rattle.responder.specs.Plans.{denying, inquiring, opened, refuse, send, turn};
 use crate::action::Action;
 use crate::action::Sorted;
 use host::find_row;
@@ -30,6 +31,8 @@ use message::ProfileId;
 use message::Refusal;
 use message::Row;
 use message::least_length;
+use message::muid_number;
+use message::read;
 
 /// The number that means every device.
 const BROADCAST: u32 = 268_435_455;
@@ -178,5 +181,68 @@ fn inquire(rows: &[Row], to: Muid, m: Message<'_>) -> Result<Action, Refusal>
         Content::SetOff(id) => switch(rows, to, m, address, id, false),
         Content::Discovery(body) => discovered(to, m, body),
         _ => deny(NakStatus::Malformed, to, m),
+    }
+}
+
+/// The number that an Invalidate MUID names.
+fn target_of(part: &[u8]) -> u32
+    ensures { λ r. ⌜ (length (now (part .entry)) ≡ 4 → r ≡ number-at 0 (now (part .entry))) ⌝ }
+{
+    if part.len() != 4 {
+        return 0;
+    }
+    muid_number(part[0], part[1], part[2], part[3])
+}
+
+/// What to do where a MUID was invalidated.
+fn invalidated(own: u32, m: Message<'_>) -> Action
+    ensures { λ r. ⌜ ((d : Identity) (others : List ℕ) (l : List Row) (draw : ℕ) (q : Fields) → Shows (m .entry) q → q .sub ≡ 0x7E → eqb (q .version) 0 ≡ false → too-short q ≡ false → action-plan d own others l draw r ≡ cond (eqb (target q) own) (send (discover d (renewed own others draw) ∷ []) (renewed own others draw) others) (send [] own (forgotten (target q) others))) ⌝ }
+{
+    match m.content {
+        Content::InvalidateMuid(part) => {
+            let target = target_of(part);
+            if target == own {
+                Action::ChooseNumber
+            } else {
+                Action::Forget(target)
+            }
+        }
+        _ => Action::Nothing,
+    }
+}
+
+/// What to do with a message from the own number.
+fn clash(sub: u8) -> Result<Action, Refusal>
+    ensures { λ r. ⌜ ((d : Identity) (own : ℕ) (others : List ℕ) (l : List Row) (draw : ℕ) → decided d own others l draw r ≡ cond (eqb sub 0x70 || eqb sub 0x71) (send (invalidate own own ∷ discover d (renewed own others draw) ∷ []) (renewed own others draw) others) (refuse Refusal.SourceNotUsable)) ⌝ }
+{
+    match sub {
+        0x70 | 0x71 => Ok(Action::GiveUpNumber),
+        _ => Err(Refusal::SourceNotUsable),
+    }
+}
+
+/// What to do with a message, or why it is refused.
+pub(crate) fn decide(rows: &[Row], own: u32, message: &[u8]) -> Result<Action, Refusal>
+    ensures { λ r. ⌜ ((d : Identity) (others : List ℕ) (draw : ℕ) → Sound (now (rows .entry)) → decided d own others (now (rows .entry)) draw r ≡ cond (framed (now (message .entry))) (opened d own others (now (rows .entry)) (fields (now (message .entry))) draw) (refuse Refusal.NotFramed)) ⌝ }
+{
+    let m = read(message)?;
+    let Some(source) = Muid::new(m.source) else {
+        return Err(Refusal::SourceNotUsable);
+    };
+    if !source.is_usable() {
+        return Err(Refusal::SourceNotUsable);
+    }
+    if m.source == own {
+        return clash(m.sub_id);
+    }
+    if !is_for_us(own, m.destination, m.sub_id) {
+        return Err(Refusal::NotForUs);
+    }
+    match sort(m.sub_id, m.version, message.len()) {
+        Sorted::NotUnderstood => Err(Refusal::NotUnderstood),
+        Sorted::Reply => Ok(Action::Note(m.source)),
+        Sorted::Invalidation => Ok(invalidated(own, m)),
+        Sorted::Heard => Ok(Action::Nothing),
+        Sorted::Inquiry => inquire(rows, source, m),
     }
 }

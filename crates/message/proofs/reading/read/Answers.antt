@@ -24,13 +24,13 @@ returns c =
     let f : framed (c .args .message .now) ≡ true = grind (arith, tells) in
     let bs = c .args .message .now in
     record {
-      value = well-framed bs f _ _ _ (c .muid .ensures) (c .muid-2 .ensures) (c .content .ensures .value);
+      value = well-framed bs f _ _ _ (c .muid-number .ensures) (c .muid-number-2 .ensures) (c .content .ensures .value);
       shape = record {
         address-low = header-low bs 1 f (omega arith);
         sub-low = header-low bs 3 f (omega arith);
         version-low = header-low bs 4 f (omega arith);
-        source-fits = number-fits bs 0 _ f (omega arith) (c .muid .ensures);
-        destination-fits = number-fits bs 4 _ f (omega arith) (c .muid-2 .ensures);
+        source-fits = number-fits bs 0 _ f (omega arith) (c .muid-number .ensures);
+        destination-fits = number-fits bs 4 _ f (omega arith) (c .muid-number-2 .ensures);
         parts = c .content .ensures .shape;
       };
     }
