@@ -102,13 +102,13 @@ sends-good : (own a : ℕ) (sub : SubId) (to : ℕ) (body : List ℕ) → own < 
     → sevens body ≡ true → Good (sends own a sub to body)
 sends-good own a sub to body o h s t b = record { address = h; sub = s; version = omega arith; source = o; destination = t; body = b }
 
-address-low : (a : Address) → a .byte < 0x80
+pub address-low : (a : Address) → a .byte < 0x80
 address-low a =
     ⊎-elim (λ t. let q = ltb-true (a .byte) 0x10 t in omega arith)
     (λ t. ⊎-elim (λ u. let q = eqb-true (a .byte) 0x7E u in omega arith) (λ u. let q = eqb-true (a .byte) 0x7F u in omega arith) (or-cases (eqb (a .byte) 0x7E) (eqb (a .byte) 0x7F) t))
     (or-cases (ltb (a .byte) 0x10) (eqb (a .byte) 0x7E || eqb (a .byte) 0x7F) (a .known))
 
-id-sevens : (i : ProfileId) → (length (i .bytes) ≡ 5) × (sevens (i .bytes) ≡ true)
+pub id-sevens : (i : ProfileId) → (length (i .bytes) ≡ 5) × (sevens (i .bytes) ≡ true)
 id-sevens i = let p = and-parts (eqb (length (i .bytes)) 5) (sevens (i .bytes)) (i .low) in (eqb-true _ _ (p .0), p .1)
 
 channels-sevens : (a : ℕ) → sevens (channels a) ≡ true
@@ -118,7 +118,7 @@ channels-sevens a = go (ltb a 0x10)
     go true = refl
     go false = refl
 
-identity-sevens : (d : Identity) → (length (d .bytes) ≡ 11) × (sevens (d .bytes) ≡ true)
+pub identity-sevens : (d : Identity) → (length (d .bytes) ≡ 11) × (sevens (d .bytes) ≡ true)
 identity-sevens d = let p = and-parts (eqb (length (d .bytes)) 11) (sevens (d .bytes)) (d .low) in (eqb-true _ _ (p .0), p .1)
 
 block-low : (d : Identity) → d .block < 0x80

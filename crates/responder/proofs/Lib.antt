@@ -1,3 +1,4 @@
 pub mod Asking
 pub mod Inquiring
 pub mod Opening
+pub mod Sendings

@@ -2,3 +2,4 @@ pub mod Inquiries
 pub mod Plans
 pub mod Actions
 pub mod Steps
+pub mod Models

@@ -42,6 +42,11 @@ Rest (Err e) before after = after ≡ before
 abbrev pub bytes : List Fields → List ℕ
 bytes ms = joined encode ms
 
+-- a call sent these bytes, and the rest of its buffer stays
+pub record Sends (bs before : List ℕ) (r : Result ℕ Refusal) (after : List ℕ) : Type 0 where
+  pub says : outcome r after ≡ sent bs
+  pub rest : Rest r before after
+
 -- the other rows that stood on before and stand off after
 abbrev pub put-off : ℕ → List ℕ → List Row → List Row → List Row
 put-off a i l l′ = keep (λ r. r .on && (not (same a i r) && not (is-on (look l′ (r .address) (r .id))))) l
