@@ -206,7 +206,7 @@ messages-back own (Nak to address sub status) o r =
 
 -- the reply to a listing inquiry
 
-abbrev Fives : List Row → Type 0
+abbrev pub Fives : List Row → Type 0
 Fives [] = Unit {0}
 Fives (r ∷ l) = (length (r .id) ≡ 5) × (sevens (r .id) ≡ true) × Fives l
 
@@ -217,13 +217,13 @@ fives-go r xs true h f =
     (eqb-true _ _ (q .0), q .1, f)
 fives-go r xs false h f = f
 
-fives-kept : (p : Row → Bool) (l : List Row) → all-ranged l ≡ true → Fives (keep p l)
+pub fives-kept : (p : Row → Bool) (l : List Row) → all-ranged l ≡ true → Fives (keep p l)
 fives-kept p [] v = tt
 fives-kept p (r ∷ l) v =
     let h = and-parts (ranged (r .address) (r .id)) (all-ranged l) v in
     fives-go r (keep p l) (p r) (h .0) (fives-kept p l (h .1))
 
-length-ids : (l : List Row) → Fives l → length (ids-of l) ≡ 5 * length l
+pub length-ids : (l : List Row) → Fives l → length (ids-of l) ≡ 5 * length l
 length-ids [] f = refl
 length-ids (r ∷ l) (h, s, f) = omega (arith, length-append (r .id) (ids-of l), length-ids l f)
 
@@ -231,7 +231,7 @@ sevens-ids : (l : List Row) → Fives l → sevens (ids-of l) ≡ true
 sevens-ids [] f = refl
 sevens-ids (r ∷ l) (h, s, f) = sevens-append (r .id) (ids-of l) s (sevens-ids l f)
 
-length-counted : (l : List Row) → Fives l → length (counted l) ≡ 2 + 5 * length l
+pub length-counted : (l : List Row) → Fives l → length (counted l) ≡ 2 + 5 * length l
 length-counted l f = omega (arith, length-ids l f)
 
 sevens-counted : (l : List Row) → Fives l → length l < 0x4000 → sevens (counted l) ≡ true

@@ -2,3 +2,4 @@ pub mod Asking
 pub mod Inquiring
 pub mod Opening
 pub mod Sendings
+pub mod Replies
