@@ -2,12 +2,12 @@
 use mathlib.Core.Path.{_≡_, refl, sym, ap, subst, _∙_}
 use mathlib.Core.List.{List, [], _∷_, _++_, map}
 use mathlib.Core.Bool.{Bool, true, false, not, _&&_, _||_, cond}
-use Prim.Native.Nat.{ℕ, suc, _+_, _-_, _*_, _≤_, _<_}
+use Prim.Native.Nat.{ℕ, zero, suc, _+_, _-_, _*_, _≤_, _<_}
 use native.Mathlib.Omega.{arith}
-use lib.Dec.{eqb, leb}
+use lib.Dec.{eqb, leb, ltb}
 use lib.ListN.{length, drop, getD}
-use Rattle.std.proofs.shelf.Lists.{length-append}
-use Rattle.std.proofs.shelf.Tests.{and-parts, eqb-true, ne-eqb, leb-true, cond-true, cond-false}
+use Rattle.std.proofs.shelf.Lists.{length-append, append-assoc, append-nil, getD-at, at-drop-more}
+use Rattle.std.proofs.shelf.Tests.{and-parts, eqb-true, ne-eqb, leb-true, ltb-true, ltb-false, cond-true, cond-false}
 use Rattle.std.proofs.shelf.Ways.{tells}
 use Rattle.message.specs.Messages.{Fields, encode}
 use Rattle.message.specs.Rows.{agree, stands, part, all-ranged}
@@ -17,7 +17,9 @@ use Rattle.message.proofs.Encoding.{length-encode}
 use Rattle.message.proofs.Trips.{fives-kept, length-counted}
 use Rattle.host.specs.Rows.{tally, Sound}
 use Rattle.responder.specs.Plans.{has-row, having-row, replied-at, upto}
-use Rattle.responder.specs.Steps.{bytes}
+use Rattle.message.specs.Writing.{Put, Left}
+use Rattle.message.proofs.Places.{left-more, left-all, as-bytes, put-by, written-none}
+use Rattle.responder.specs.Steps.{bytes, reply-there, lists-bytes}
 
 -- each row at an address is on or off
 halves : (a : ℕ) (l : List Row) → length (part a true l) + length (part a false l) ≡ tally a l
@@ -143,3 +145,76 @@ replies-fit own to l s =
     let few = s .few in
     let t = tallies-few 0 (places ++ 0x7F ∷ []) l refl in
     omega (arith, k, t, few, tallies-last places 0x7F l)
+
+-- one of them is no longer than a message may be
+pub reply-short : (own to a : ℕ) (l : List Row) → Sound l → length (encode (profile-list own to a l)) ≤ 512
+reply-short own to a l s = let few = s .few in omega (arith, length-reply own to a l (s .ranges), tally-few a l)
+
+-- the addresses in their order
+
+length-upto : (n : ℕ) → length (upto n) ≡ n
+length-upto zero = refl
+length-upto (suc n) = let k = length-upto n in omega (arith, length-append (upto n) (n ∷ []))
+
+upto-at : (n k : ℕ) (ys : List ℕ) → k < n → getD (upto n ++ ys) k 0 ≡ k
+upto-at zero k ys h = absurd (omega arith)
+upto-at (suc n) k ys h =
+    ap (λ (xs : List ℕ). getD xs k 0) (append-assoc (upto n) (n ∷ []) ys) ∙ go (ltb k n) refl (λ lt. upto-at n k (n ∷ ys) lt)
+  where
+    go : (b : Bool) → ltb k n ≡ b → (k < n → getD (upto n ++ n ∷ ys) k 0 ≡ k) → getD (upto n ++ n ∷ ys) k 0 ≡ k
+    go true t f = f (ltb-true k n t)
+    go false t f =
+        let ge = ltb-false k n t in
+        let e : k ≡ n = omega arith in
+        getD-at (upto n) n ys 0 k (length-upto n ∙ sym e) ∙ sym e
+
+pub places-from : (k : ℕ) → k < 16 → drop k places ≡ k ∷ drop (k + 1) places
+places-from k h =
+    at-drop-more (λ (xs : List ℕ). xs) places k 0 (omega arith) ∙ ap (λ (n : ℕ). n ∷ drop (k + 1) places) (upto-at 16 k (0x7E ∷ []) h)
+
+-- what is left of the replies from an address on
+abbrev pub replies-from : (own to : ℕ) → List Row → List ℕ → List ℕ
+replies-from own to l xs = bytes (map (λ a. profile-list own to a l) (having-row l xs ++ 0x7F ∷ []))
+
+pub replies-more : (own to : ℕ) (l : List Row) (a : ℕ) (xs : List ℕ) → replies-from own to l (a ∷ xs) ≡ reply-there own to l a ++ replies-from own to l xs
+replies-more own to l a xs = go (has-row l a)
+  where
+    go : (b : Bool)
+        → bytes (map (λ a. profile-list own to a l) (cond b (a ∷ having-row l xs) (having-row l xs) ++ 0x7F ∷ [])) ≡ cond b (encode (profile-list own to a l)) [] ++ replies-from own to l xs
+    go true = refl
+    go false = refl
+
+pub replies-step : (own to : ℕ) (l : List Row) (k : ℕ) → k < 16
+    → replies-from own to l (drop k places) ≡ reply-there own to l k ++ replies-from own to l (drop (k + 1) places)
+replies-step own to l k h = ap (replies-from own to l) (places-from k h) ∙ replies-more own to l k (drop (k + 1) places)
+
+-- the Group, and then the Function Block
+pub replies-group : (own to : ℕ) (l : List Row) (k : ℕ) → k ≡ 16
+    → replies-from own to l (drop k places) ≡ reply-there own to l 0x7E ++ (encode (profile-list own to 0x7F l) ++ [])
+replies-group own to l k e = ap (λ (n : ℕ). replies-from own to l (drop n places)) e ∙ replies-more own to l 0x7E []
+
+pub every-list : (own to : ℕ) (l : List Row) → replies-from own to l places ≡ lists-bytes own to l 0x7F
+unfolding lists-bytes
+every-list own to l = refl
+
+pub one-list : (own to : ℕ) (l : List Row) (a : ℕ) → eqb a 0x7F ≡ false → encode (profile-list own to a l) ≡ lists-bytes own to l a
+unfolding lists-bytes
+one-list own to l a h =
+    sym (append-nil (encode (profile-list own to a l)))
+    ∙ ap (λ (b : Bool). bytes (map (λ c. profile-list own to c l) (cond b (having-row l places ++ 0x7F ∷ []) (a ∷ [])))) (sym h)
+
+-- a whole answer, put by its last reply
+pub last-reply : (own to : ℕ) (l : List Row) (before mid after : List ℕ) (at end : ℕ) → Left before 0 (replies-from own to l places) at mid (encode (profile-list own to 0x7F l) ++ [])
+    → 0 + length (replies-from own to l places) ≤ length before → Put mid at (encode (profile-list own to 0x7F l)) end after → Put before 0 (lists-bytes own to l 0x7F) end after
+last-reply own to l before mid after at end p room q = as-bytes (every-list own to l) (left-all room (left-more _ _ p q))
+
+-- an address without a row gets none
+pub none-there : (own to : ℕ) (l : List Row) (a : ℕ) (before : List ℕ) (at : ℕ) → has-row l a ≡ false → at + length (reply-there own to l a) ≤ length before
+    → Put before at (reply-there own to l a) at before
+none-there own to l a before at h room =
+    let e : reply-there own to l a ≡ [] = cond-false _ _ _ h in
+    as-bytes (sym e) (put-by (omega (arith, room, ap length e)) (omega arith) (sym (written-none before at)))
+
+pub reply-put : (own to : ℕ) (l : List Row) (a : ℕ) (before : List ℕ) (at end : ℕ) (after : List ℕ) → eqb a 0x7F ≡ false
+    → Put before at (encode (profile-list own to a l)) end after → Put before at (lists-bytes own to l a) end after
+reply-put own to l a before at end after h p = as-bytes (one-list own to l a h) p

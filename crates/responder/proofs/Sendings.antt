@@ -104,12 +104,24 @@ two-send own own′ s t before mid after at r room p q =
     sends-as (m ++ n) (bytes (meant own s ∷ meant own′ t ∷ [])) before after r (Ok (at + length n)) (ap (λ (x : List ℕ). m ++ x) (sym (append-nil n))) (b .0)
     (put-sends (m ++ n) before after (at + length n) (and-then c (b .1)))
 
--- where there is room nothing is refused
+-- where there is room, the place that is told is the end, and nothing is refused
+pub put-to : (bs before : List ℕ) (at end : ℕ) (after : List ℕ) → length bs ≤ 512 → at + length bs ≤ length before
+    → Written bs before at (Ok end) after → Put before at bs end after
+put-to bs before at end after few room w =
+    let a = written-put bs before at (Ok end) after few room w in
+    let f = a .0 in
+    let e : at + length bs ≡ end = cc in
+    subst (λ (k : ℕ). Put before at bs k after) e (a .1)
+
+pub not-refused : (bs before : List ℕ) (at : ℕ) (e : Refusal) (after : List ℕ) → length bs ≤ 512 → at + length bs ≤ length before
+    → Written bs before at (Err e) after → ⊥
+not-refused bs before at e after few room w =
+    let f = written-put bs before at (Err e) after few room w .0 in
+    let z : _≡_ {A = ℕ} 0 1 = cc in
+    omega arith
+
 pub never-refused : (own : ℕ) (s : Sent) (before : List ℕ) (at : ℕ) (e : Refusal) (after : List ℕ) → at + 33 ≤ length before
     → Written (encode (meant own s)) before at (Err e) after → ⊥
 never-refused own s before at e after room w =
     let few = length-meant own s in
-    let a = written-put (encode (meant own s)) before at (Err e) after (omega arith) (omega arith) w in
-    let f = a .0 in
-    let z : _≡_ {A = ℕ} 0 1 = cc in
-    omega arith
+    not-refused (encode (meant own s)) before at e after (omega arith) (omega arith) w

@@ -1,7 +1,7 @@
 -- What a call does, over any host.
 use mathlib.Core.Path.{_≡_}
 use mathlib.Core.List.{List, [], _∷_, _++_, map}
-use mathlib.Core.Bool.{Bool, true, false, not, _&&_}
+use mathlib.Core.Bool.{Bool, true, false, not, _&&_, cond}
 use Prim.Native.Nat.{ℕ, _≤_}
 use lib.ListN.{length, take, drop}
 use Rattle.std.specs.Joined.{joined}
@@ -10,12 +10,12 @@ use Rattle.std.specs.declared.result.Result.{Result}
 use Rattle.std.specs.declared.result.Result.the-variants.{Ok, Err}
 use Rattle.message.specs.Messages.{Fields, encode}
 use Rattle.message.specs.Rows.{keep}
-use Rattle.message.specs.Sending.{report}
+use Rattle.message.specs.Sending.{profile-list, report}
 use Rattle.message.specs.declared.refusal.Refusal.{Refusal}
 use Rattle.message.specs.declared.row.Row.{Row}
 use Rattle.host.specs.Rows.{same, look, is-on}
 use Rattle.host.specs.Hosts.{Consents, Switched}
-use Rattle.responder.specs.Plans.{Plan, refuse, send, turn}
+use Rattle.responder.specs.Plans.{Plan, refuse, send, turn, has-row, replied-at}
 
 -- a responder by what it knows: the own number, the listed devices, and its host
 pub record State (S : Type 0) : Type 0 where
@@ -41,6 +41,14 @@ Rest (Err e) before after = after ≡ before
 -- messages one after the other
 abbrev pub bytes : List Fields → List ℕ
 bytes ms = joined encode ms
+
+-- the reply at an address that has a row, and nothing at another
+abbrev pub reply-there : (own to : ℕ) → List Row → ℕ → List ℕ
+reply-there own to l a = cond (has-row l a) (encode (profile-list own to a l)) []
+
+-- the whole answer to a listing inquiry at an address
+unfoldable pub lists-bytes : (own to : ℕ) → List Row → ℕ → List ℕ
+lists-bytes own to l a = bytes (map (λ b. profile-list own to b l) (replied-at l a))
 
 -- a call sent these bytes, and the rest of its buffer stays
 pub record Sends (bs before : List ℕ) (r : Result ℕ Refusal) (after : List ℕ) : Type 0 where

@@ -2,7 +2,8 @@
 mod action;
 mod calls;
 mod deciding;
-mod sending;
+mod listing;
 pub mod responder;
+mod sending;
 
 pub use responder::Responder;
