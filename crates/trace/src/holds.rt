@@ -38,8 +38,9 @@ pub impl fmt::Display for Sender<'_> as SenderDisplay {
         let largest = number(*k, *l, *m, *n);
         write!(
             f,
-            ", revision {}, categories {categories:02X}h, messages up to {largest} bytes",
-            Hex(&revision)
+            ", revision {}, categories {}h, messages up to {largest} bytes",
+            Hex(&revision),
+            Hex(&[*categories])
         )?;
         match rest {
             [path, ..] if self.version >= 2 => write!(f, ", Output Path {path}"),

@@ -36,5 +36,9 @@ fn run(rt: &LibcRuntime) -> io::Result<()> {
 }
 
 fn main(rt: LibcRuntime) -> io::Result<()> {
-    rt.report(run(&rt))
+    let result = run(&rt);
+    if let Err(e) = &result {
+        let _ = eprintln!(rt, "trace: {e}");
+    }
+    result
 }

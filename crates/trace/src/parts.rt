@@ -57,6 +57,28 @@ pub fn number(a: u8, b: u8, c: u8, d: u8) -> u32
     a as u32 + b as u32 * 0x80 + c as u32 * 0x4000 + d as u32 * 0x20_0000
 }
 
+/// A hexadecimal digit. Texts that are written as they are go several times as fast as padded numbers.
+fn digit(n: u8) -> &'static str {
+    match n {
+        0x0 => "0",
+        0x1 => "1",
+        0x2 => "2",
+        0x3 => "3",
+        0x4 => "4",
+        0x5 => "5",
+        0x6 => "6",
+        0x7 => "7",
+        0x8 => "8",
+        0x9 => "9",
+        0xA => "A",
+        0xB => "B",
+        0xC => "C",
+        0xD => "D",
+        0xE => "E",
+        _ => "F",
+    }
+}
+
 /// Bytes in hexadecimal.
 #[derive(Clone, Copy)]
 pub struct Hex<'a>(pub &'a [u8]);
@@ -64,11 +86,12 @@ pub struct Hex<'a>(pub &'a [u8]);
 pub impl fmt::Display for Hex<'_> as HexDisplay {
     fn fmt<W: fmt::Write>(&self, f: &mut fmt::Formatter<W>) -> fmt::Result {
         let Hex(bytes) = *self;
-        for (i, byte) in bytes.iter().enumerate() {
-            if i > 0 {
-                write!(f, " ")?;
-            }
-            write!(f, "{byte:02X}")?;
+        let mut gap = "";
+        for byte in bytes {
+            f.write_str(gap)?;
+            f.write_str(digit(*byte / 0x10))?;
+            f.write_str(digit(*byte % 0x10))?;
+            gap = " ";
         }
         Ok(())
     }
