@@ -1,6 +1,9 @@
 -- What is counted along a stream of bytes.
 use mathlib.Core.Bool.{Bool, cond}
+use mathlib.Core.List.{List, [], _∷_}
 use Prim.Native.Nat.{ℕ, _+_, _-_, _^_, min}
+use lib.ListN.{length}
+use Rattle.message.specs.Messages.{framed}
 use Rattle.trace.specs.declared.counts.Counts.{Counts}
 
 -- a count goes up to what 64 bits hold, and stays there
@@ -18,3 +21,11 @@ with-bytes c n = record { bytes = up (c .bytes) n; messages = c .messages; «mid
 abbrev pub with-message : Counts → ℕ → Bool → Counts
 with-message c n of-midi-ci =
     record { bytes = c .bytes; messages = up (c .messages) 1; «midi_ci» = up (c .«midi_ci») (cond of-midi-ci 1 0); told = up (c .told) n }
+
+-- the same, by the bytes of the message
+abbrev pub counted : Counts → List ℕ → Counts
+counted c message = with-message c (length message) (framed message)
+
+abbrev pub all-counted : Counts → List (List ℕ) → Counts
+all-counted c [] = c
+all-counted c (message ∷ messages) = all-counted (counted c message) messages

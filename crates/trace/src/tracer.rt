@@ -1,4 +1,10 @@
 //! From blocks of bytes to lines.
+ghost use mathlib.Core.Path.{_≡_};
+ghost use lib.ListN.{length};
+ghost use Rattle.std.specs.Vec.{made};
+ghost use Rattle.message.specs.Messages.{framed};
+ghost use Rattle.trace.specs.Counting.{none, with-bytes, counted};
+ghost use Rattle.trace.specs.Tracing.{new-tracer, state-of, takes};
 use crate::counts::Counts;
 use crate::told::Told;
 use crate::told::ToldDisplay;
@@ -15,7 +21,9 @@ pub struct Tracer {
 }
 
 /// Writes a message's line and counts it.
-fn tell<W: Write>(message: &[u8], counts: Counts, out: &mut W) -> io::Result<Counts> {
+fn tell<W: Write>(message: &[u8], counts: Counts, out: &mut W) -> io::Result<Counts>
+    ensures { λ r. ⌜ made r (λ c. c ≡ counted counts (now (message .entry))) ⌝ }
+{
     let told = Told::new(message);
     writeln!(out, "{told}")?;
     Ok(counts.with_message(message.len(), told.is_midi_ci()))
@@ -23,7 +31,9 @@ fn tell<W: Write>(message: &[u8], counts: Counts, out: &mut W) -> io::Result<Cou
 
 impl Tracer {
     /// Nothing was read.
-    pub fn new() -> Tracer {
+    pub fn new() -> Tracer
+        ensures { λ r. ⌜ state-of r ≡ new-tracer ⌝ }
+    {
         Tracer {
             collector: Collector::new(),
             buffer: [0; 512],
@@ -32,7 +42,9 @@ impl Tracer {
     }
 
     /// Takes a block of bytes, and writes a line for each message that it ends.
-    pub fn take<W: Write>(&mut self, block: &[u8], out: &mut W) -> io::Result<()> {
+    pub fn take<W: Write>(&mut self, block: &[u8], out: &mut W) -> io::Result<()>
+        ensures { λ r. ⌜ made r (λ _. state-of (now (self .exit)) ≡ takes (state-of (now (self .entry))) (now (block .entry))) ⌝ }
+    {
         self.counts = self.counts.with_bytes(block.len());
         for byte in block {
             if let Ok(Some(n)) = self.collector.feed(*byte, &mut self.buffer) {
