@@ -2,7 +2,7 @@
 use mathlib.Core.List.{List, [], _∷_}
 use Prim.Native.Nat.{ℕ}
 use lib.ListN.{length, replicate}
-use Rattle.collector.specs.Streams.{State, new-with, after, heard}
+use Rattle.collector.specs.Streams.{State, new-with, call, left, told, after, heard}
 use Rattle.trace.specs.Counting.{none, with-bytes, all-counted}
 use Rattle.trace.specs.declared.counts.Counts.{Counts}
 use Rattle.trace.specs.declared.tracer.Tracer.{Tracer}
@@ -18,10 +18,22 @@ state-of t = record { collecting = record { held = t .collector .held; buffer = 
 abbrev pub new-tracer : Traced
 new-tracer = record { collecting = new-with (replicate 512 0); counts = none }
 
--- A block: its bytes are counted and collected, and each message that is heard is counted.
-abbrev pub takes : Traced → List ℕ → Traced
-takes t block =
+-- A byte: it is collected, and the message that it ends is counted.
+abbrev pub steps : Traced → ℕ → Traced
+steps t byte =
     record {
-      collecting = after (t .collecting) block;
-      counts = all-counted (with-bytes (t .counts) (length block)) (heard (t .collecting) block);
+      collecting = left (call (t .collecting) byte);
+      counts = all-counted (t .counts) (told (call (t .collecting) byte .answer) (call (t .collecting) byte .buffer));
     }
+
+-- Bytes, one after the other: each message that is heard is counted.
+abbrev pub goes : Traced → List ℕ → Traced
+goes t bytes =
+    record {
+      collecting = after (t .collecting) bytes;
+      counts = all-counted (t .counts) (heard (t .collecting) bytes);
+    }
+
+-- A block: the number of its bytes is counted, and they go one after the other.
+abbrev pub takes : Traced → List ℕ → Traced
+takes t block = goes (record { collecting = t .collecting; counts = with-bytes (t .counts) (length block) }) block

@@ -4,7 +4,7 @@ ghost use lib.ListN.{length};
 ghost use Rattle.std.specs.Vec.{made};
 ghost use Rattle.message.specs.Messages.{framed};
 ghost use Rattle.trace.specs.Counting.{none, with-bytes, counted};
-ghost use Rattle.trace.specs.Tracing.{new-tracer, state-of, takes};
+ghost use Rattle.trace.specs.Tracing.{new-tracer, state-of, steps, takes};
 use crate::counts::Counts;
 use crate::told::Told;
 use crate::told::ToldDisplay;
@@ -41,15 +41,23 @@ impl Tracer {
         }
     }
 
+    /// Takes a byte, and writes a line for the message that it ends.
+    fn step<W: Write>(&mut self, byte: u8, out: &mut W) -> io::Result<()>
+        ensures { λ r. ⌜ made r (λ _. state-of (now (self .exit)) ≡ steps (state-of (now (self .entry))) byte) ⌝ }
+    {
+        if let Ok(Some(n)) = self.collector.feed(byte, &mut self.buffer) {
+            self.counts = tell(&self.buffer[0..n], self.counts, out)?;
+        }
+        Ok(())
+    }
+
     /// Takes a block of bytes, and writes a line for each message that it ends.
     pub fn take<W: Write>(&mut self, block: &[u8], out: &mut W) -> io::Result<()>
         ensures { λ r. ⌜ made r (λ _. state-of (now (self .exit)) ≡ takes (state-of (now (self .entry))) (now (block .entry))) ⌝ }
     {
         self.counts = self.counts.with_bytes(block.len());
         for byte in block {
-            if let Ok(Some(n)) = self.collector.feed(*byte, &mut self.buffer) {
-                self.counts = tell(&self.buffer[0..n], self.counts, out)?;
-            }
+            self.step(*byte, out)?;
         }
         Ok(())
     }
