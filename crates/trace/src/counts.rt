@@ -1,6 +1,5 @@
 //! What is counted along a cable.
 ghost use mathlib.Core.Path.{_≡_};
-ghost use lib.ListN.{length};
 ghost use Prim.Native.Nat.{_-_};
 ghost use Rattle.trace.specs.Counting.{none, with-bytes, with-message};
 use std::fmt;

@@ -1,9 +1,8 @@
 //! From blocks of bytes to lines.
 ghost use mathlib.Core.Path.{_≡_};
-ghost use lib.ListN.{length};
 ghost use Rattle.std.specs.Vec.{made};
-ghost use Rattle.message.specs.Messages.{framed};
-ghost use Rattle.trace.specs.Counting.{none, with-bytes, counted};
+ghost use Rattle.trace.specs.Counting.{counted};
+ghost use Rattle.trace.specs.Laws.{Counts-the-stream};
 ghost use Rattle.trace.specs.Tracing.{new-tracer, state-of, steps, takes};
 use crate::counts::Counts;
 use crate::told::Told;
@@ -30,9 +29,10 @@ fn tell<W: Write>(message: &[u8], counts: Counts, out: &mut W) -> io::Result<Cou
 }
 
 impl Tracer {
-    /// Nothing was read.
+    /// Nothing was read. However a stream is then cut into blocks, the counts are those of the messages that stand in it.
     pub fn new() -> Tracer
-        ensures { λ r. ⌜ state-of r ≡ new-tracer ⌝ }
+        ensures value { λ r. ⌜ state-of r ≡ new-tracer ⌝ }
+        ensures streams { λ _. ⌜ Counts-the-stream ⌝ }
     {
         Tracer {
             collector: Collector::new(),
