@@ -1,11 +1,7 @@
 //! Tells what went over a MIDI cable: a line for each whole System Exclusive message, and counts at the end.
 mod counts;
-mod holds;
-mod names;
-mod parts;
 mod told;
 mod tracer;
-mod words;
 
 use counts::CountsDisplay;
 use std::io;

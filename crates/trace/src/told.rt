@@ -2,11 +2,11 @@
 ghost use mathlib.Core.Path.{_≡_};
 ghost use Rattle.message.specs.Messages.{framed};
 ghost use Rattle.trace.specs.Telling.{of-midi-ci};
-use crate::words::Words;
-use crate::words::WordsDisplay;
 use message::Message;
 use message::read;
 use std::fmt;
+use wording::Words;
+use wording::words::WordsDisplay;
 
 /// A message of MIDI-CI, or another System Exclusive message of so many bytes.
 #[derive(Clone, Copy)]

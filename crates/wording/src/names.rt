@@ -1,7 +1,7 @@
 //! Names of messages and meanings of statuses.
 
 /// The name of a message of MIDI-CI 1.2 by its Sub-ID, unless the Sub-ID is reserved.
-pub fn message_name(sub_id: u8) -> Option<&'static str> {
+pub(crate) fn message_name(sub_id: u8) -> Option<&'static str> {
     match sub_id {
         0x10..=0x1F => protocol_name(sub_id),
         0x20..=0x2F => profile_name(sub_id),
@@ -87,7 +87,7 @@ fn management_name(sub_id: u8) -> Option<&'static str> {
 }
 
 /// What the status of a NAK means.
-pub fn status_meaning(status: u8) -> &'static str {
+pub(crate) fn status_meaning(status: u8) -> &'static str {
     match status {
         0x00 => "no reason given",
         0x01 => "message not supported",

@@ -51,7 +51,7 @@ pub impl fmt::Display for Device as DeviceDisplay {
 }
 
 /// The number that four bytes of seven bits say, lowest first.
-pub fn number(a: u8, b: u8, c: u8, d: u8) -> u32
+pub(crate) fn number(a: u8, b: u8, c: u8, d: u8) -> u32
     ensures { λ r. ⌜ r ≡ a + b * 0x80 + c * 0x4000 + d * 0x200000 ⌝ }
 {
     a as u32 + b as u32 * 0x80 + c as u32 * 0x4000 + d as u32 * 0x20_0000
