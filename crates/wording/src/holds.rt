@@ -18,34 +18,29 @@ pub struct Sender<'a> {
 
 pub impl fmt::Display for Sender<'_> as SenderDisplay {
     fn fmt<W: fmt::Write>(&self, f: &mut fmt::Formatter<W>) -> fmt::Result {
-        let [a, b, c, d, e, g, h, rest @ ..] = self.body else {
+        let body = self.body;
+        if body.len() < 16 {
             return write!(f, "no identity");
-        };
-        let manufacturer = [*a, *b, *c];
-        let family = [*d, *e];
-        let model = [*g, *h];
-        write!(
-            f,
-            "manufacturer {}, family {}, model {}",
-            Hex(&manufacturer),
-            Hex(&family),
-            Hex(&model)
-        )?;
-        let [a, b, c, d, categories, k, l, m, n, rest @ ..] = rest else {
-            return Ok(());
-        };
-        let revision = [*a, *b, *c, *d];
-        let largest = number(*k, *l, *m, *n);
-        write!(
-            f,
-            ", revision {}, categories {}h, messages up to {largest} bytes",
-            Hex(&revision),
-            Hex(&[*categories])
-        )?;
-        match rest {
-            [path, ..] if self.version >= 2 => write!(f, ", Output Path {path}"),
-            _ => Ok(()),
         }
+        let manufacturer = Hex(&body[0..3]);
+        let family = Hex(&body[3..5]);
+        let model = Hex(&body[5..7]);
+        let revision = Hex(&body[7..11]);
+        write!(
+            f,
+            "manufacturer {manufacturer}, family {family}, model {model}, revision {revision}"
+        )?;
+        let categories = Hex(&body[11..12]);
+        let largest = number(body[12], body[13], body[14], body[15]);
+        write!(
+            f,
+            ", categories {categories}h, messages up to {largest} bytes"
+        )?;
+        if self.version >= 2 && body.len() > 16 {
+            let path = body[16];
+            write!(f, ", Output Path {path}")?;
+        }
+        Ok(())
     }
 }
 

@@ -19,7 +19,7 @@ fn protocol_name(sub_id: u8) -> Option<&'static str> {
         0x12 => Some("Set New Selected Protocol"),
         0x13 => Some("Test New Protocol Initiator to Responder"),
         0x14 => Some("Test New Protocol Responder to Initiator"),
-        0x15 => Some("Confirmation New Protocol Established"),
+        0x15 => Some("Confirmation Protocol Established"),
         _ => None,
     }
 }
