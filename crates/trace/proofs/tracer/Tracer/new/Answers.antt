@@ -1,0 +1,6 @@
+use borrow.Author.Needs.{needs}
+use Rattle.trace.proofs.Sums.{counts-the-stream}
+use Rattle.trace.proofs.tracer.Tracer.new.Needs as need
+
+pub returns : need.returns
+returns c = record { value = search needs; streams = counts-the-stream (c .new .ensures .streams) }

@@ -1,0 +1,4 @@
+pub mod Telling
+pub mod Counting
+pub mod Tracing
+pub mod Laws
