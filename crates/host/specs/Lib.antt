@@ -1,2 +1,5 @@
 pub mod Rows
 pub mod Hosts
+pub mod Tables
+pub mod Making
+pub mod Lawfulness
