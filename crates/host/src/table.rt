@@ -54,6 +54,13 @@ fn is_other(state: bool, on: bool) -> bool
     state != on
 }
 
+/// Whether a row may be pulled.
+fn is_off(state: bool) -> bool
+    ensures { λ r. ⌜ r ≡ differs (Some state) true ⌝ }
+{
+    !state
+}
+
 pub impl Host for Table as TableHost {
     ghost listing = { λ h. listed (h .rows) };
 
@@ -113,11 +120,11 @@ pub impl Host for Table as TableHost {
     fn pull(&mut self, address: u8, id: [u8; 5]) -> bool {
         match self.rows.place(address, id) {
             Some(k) => {
-                let off = is_other(self.rows.slots[k].on, true);
-                if off {
+                let leaves = is_off(self.rows.slots[k].on);
+                if leaves {
                     self.rows.remove(address, id);
                 }
-                off
+                leaves
             }
             None => false,
         }

@@ -16,20 +16,20 @@ ghost-self c =
     let s : Sound (listed (c .remove .last .self)) = subst (λ ys. Sound ys) (sym (c .remove .ensures .rows)) (sound-without (listed (t .rows)) was (c .args .address) (c .args .id)) in
     (c .remove .ensures .within, (c .remove .ensures .whole, (s .each, (s .ranges, (s .order, tt)))))
 
-pub returns-then-off : need.returns-then-off
-returns-then-off c =
+pub returns-then-leaves : need.returns-then-leaves
+returns-then-leaves c =
     let t = c .args .self .now in
     let l = listed (t .rows) in
     let h = c .in-Some .ensures tt .place in
     let state = slot-state (t .rows) (c .in-Some .k) (h .0) (look l (c .args .address) (c .args .id)) (h .1 blank .1) in
-    let told = c .is-other-off .ensures ∙ ap (λ (o : Option Bool). differs o true) (sym state) in
-    record { does = table-loses l (c .args .address) (c .args .id) (c .is-other-off .result) told (listed (c .remove .last .self)) (c .if-off .taken) (c .remove .ensures .rows); same = tt }
+    let told = c .is-off-leaves .ensures ∙ ap (λ (o : Option Bool). differs o true) (sym state) in
+    record { does = table-loses l (c .args .address) (c .args .id) (c .is-off-leaves .result) told (listed (c .remove .last .self)) (c .if-leaves .taken) (c .remove .ensures .rows); same = tt }
 
-pub returns-else-off : need.returns-else-off
-returns-else-off c =
+pub returns-else-leaves : need.returns-else-leaves
+returns-else-leaves c =
     let t = c .args .self .now in
     let l = listed (t .rows) in
     let h = c .in-Some .ensures tt .place in
     let state = slot-state (t .rows) (c .in-Some .k) (h .0) (look l (c .args .address) (c .args .id)) (h .1 blank .1) in
-    let told = c .is-other-off .ensures ∙ ap (λ (o : Option Bool). differs o true) (sym state) in
-    record { does = table-keeps l (c .args .address) (c .args .id) (c .is-other-off .result) told (c .if-off .left); same = tt }
+    let told = c .is-off-leaves .ensures ∙ ap (λ (o : Option Bool). differs o true) (sym state) in
+    record { does = table-keeps l (c .args .address) (c .args .id) (c .is-off-leaves .result) told (c .if-leaves .left); same = tt }
