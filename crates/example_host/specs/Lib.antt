@@ -1,0 +1,2 @@
+pub mod Keyboards
+pub mod Lawfulness
