@@ -1,0 +1,4 @@
+pub mod Lists
+pub mod Models
+pub mod Holding
+pub mod Sets
