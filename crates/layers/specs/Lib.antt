@@ -2,3 +2,4 @@ pub mod Lists
 pub mod Models
 pub mod Holding
 pub mod Sets
+pub mod Lawfulness
