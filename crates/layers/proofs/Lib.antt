@@ -1,2 +1,4 @@
 pub mod Places
 pub mod Withholding
+pub mod Lookups
+pub mod Setting

@@ -32,7 +32,7 @@ module _ {X : Type 0} (p : X → Bool) where
   every-at (x ∷ xs) zero d h lt = and-parts (p x) (every p xs) h .0
   every-at (x ∷ xs) (suc k) d h lt = every-at xs k d (and-parts (p x) (every p xs) h .1) (omega arith)
 
-same-ways : (i j : List ℕ) → sameBytes i j ≡ same-key j i
+pub same-ways : (i j : List ℕ) → sameBytes i j ≡ same-key j i
 same-ways i j = same-from-decides (sameBytes i j) (same-key j i) (sameBytes-decides i j) ((λ t. sym (same-eq j i t)), λ e. same-from j i (sym e))
 
 -- the set of a member that may be there

@@ -5,9 +5,11 @@ pub mod member;
 pub mod members;
 pub mod pair;
 pub mod pairs;
+pub mod sets;
 
 pub use holding::Holding;
 pub use member::Member;
 pub use members::Members;
 pub use pair::Pair;
 pub use pairs::Pairs;
+pub use sets::Sets;

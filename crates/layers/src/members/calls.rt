@@ -4,6 +4,7 @@ ghost use mathlib.Core.Bool.{true, _&&_};
 ghost use Prim.Native.Nat.{_≤_, _<_};
 ghost use lib.Dec.{leb};
 ghost use lib.ListN.{length};
+ghost use Rattle.std.specs.shelf.Text.{sameBytes};
 ghost use Rattle.std.specs.Options.{Cases as BySome};
 ghost use Rattle.rising.specs.Lists.{rising, Rising};
 ghost use Rattle.layers.specs.Lists.{every, judged, Made, member-key, member-ranged};
@@ -18,6 +19,13 @@ use crate::member::MemberRanged;
 use message::Refusal;
 use message::Row;
 use rising::find;
+
+// Whether two IDs have the same bytes.
+pub fn same_id(one: [u8; 5], other: [u8; 5]) -> bool
+    ensures { λ r. ⌜ r ≡ sameBytes one other ⌝ }
+{
+    one == other
+}
 
 impl Members {
     /// The list of these members. Refused if one is out of range, and else if they do not rise strictly or are more than 16.
@@ -62,5 +70,12 @@ impl Members {
             (Some(set), Some(its)) => set == its,
             _ => false,
         }
+    }
+
+    /// Whether the row is a rival of the row with that address and ID: another one that is on, at that address and in that set.
+    pub fn is_rival(&self, address: u8, id: [u8; 5], row: Row) -> bool
+        ensures { λ r. ⌜ r ≡ rival (members-of (now (self .entry))) address id row ⌝ }
+    {
+        address == row.address && (row.on && (self.share_a_set(id, row.id) && !same_id(id, row.id)))
     }
 }
