@@ -68,8 +68,7 @@ rival-listed ms a i j (r ∷ l) h =
     ⊎-elim
     (λ t.
     let p = and-parts _ _ t in
-    let v = rival-parts ms a i r (p .0) in
-    (
+    let v = rival-parts ms a i r (p .0) in (
       ap is-there (cond-true (same a j r) (Some (r .on)) (look l a j) (and-from _ _ (v .here) (p .1))),
       subst (λ (k : List ℕ). sameBytes k i ≡ false) (sym (sameBytes-decides j (r .id) .0 (p .1))) (bytes-turn i (r .id) (v .other)),
     ))

@@ -46,7 +46,14 @@ fn is_off<B: Host>(below: &B, address: u8, id: [u8; 5]) -> bool
     ensures { λ r. ⌜ r ≡ differs (look (B·Host .listing (now (below .entry))) address id) true ⌝ }
 {
     let rows = below.rows();
-    match find(rows, &Row { address, id, on: false }) {
+    match find(
+        rows,
+        &Row {
+            address,
+            id,
+            on: false,
+        },
+    ) {
         Some(k) => !rows[k].on,
         None => false,
     }
@@ -87,7 +94,13 @@ fn is_named(row: Row, members: &Members, address: u8, id: [u8; 5], other: [u8; 5
 }
 
 // Whether the other ID is that of a rival.
-fn names_rival<B: Host>(below: &B, members: &Members, address: u8, id: [u8; 5], other: [u8; 5]) -> bool
+fn names_rival<B: Host>(
+    below: &B,
+    members: &Members,
+    address: u8,
+    id: [u8; 5],
+    other: [u8; 5],
+) -> bool
     ensures { λ r. ⌜ r ≡ any (λ x. rival (members-of (now (members .entry))) address id x && sameBytes other (x .id)) (B·Host .listing (now (below .entry))) ⌝ }
 {
     let rows = below.rows();
@@ -158,7 +171,8 @@ pub impl<B: Host> Host for Sets<B> as SetsHost {
 
     fn puts_off(&self, address: u8, id: [u8; 5], other: [u8; 5]) -> bool {
         consents_on(&self.below, &self.members, address, id)
-            && (self.below.puts_off(address, id, other) || names_rival(&self.below, &self.members, address, id, other))
+            && (self.below.puts_off(address, id, other)
+                || names_rival(&self.below, &self.members, address, id, other))
     }
 
     fn is_fixed(&self) -> bool {
