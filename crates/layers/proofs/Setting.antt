@@ -18,7 +18,7 @@ use Rattle.rising.specs.Lists.{Rising}
 use Rattle.message.specs.Rows.{row-key}
 use Rattle.message.specs.declared.row.Row.{Row}
 use Rattle.host.specs.Rows.{row, same, look, any}
-use Rattle.host.specs.Hosts.{Consents, differs, goes, turned, Kept, Switched}
+use Rattle.host.specs.Hosts.{Consents, differs, goes, turned, Kept, Switched, Plugged, Pulled}
 use Rattle.layers.specs.declared.member.Member.{Member}
 use Rattle.layers.specs.Sets.{together, rival, set-on, setted}
 use Rattle.layers.specs.Clearing.{cleared, Cleared}
@@ -332,4 +332,30 @@ setted-off ms l c f a i l′ c′ f′ answer s =
       kept = λ g o.
           let e : l′ ≡ map (turned a i false (c .names a i)) l = rw g at (s .rows) in
           subst (λ (z : List Row). Kept a i (setted ms l c) (setted ms z c′)) (sym e) (setted-kept ms l c a i c′ (c .names a i) (s .kept g o));
+    }
+
+-- a plug or a pull of the layer is the one below
+
+pub setted-plugged : (ms : List Member) (l : List Row) (c : Consents) (f : Bool) (a : ℕ) (i : List ℕ) (l′ : List Row) (c′ : Consents) (f′ answer : Bool)
+    → Plugged l c f a i l′ c′ f′ answer → Plugged l (setted ms l c) f a i l′ (setted ms l′ c′) f′ answer
+setted-plugged ms l c f a i l′ c′ f′ answer s =
+    record {
+      told = s .told;
+      rows = s .rows;
+      still = λ t.
+          let d : l′ ≡ l = rw t at (s .rows) in
+          ap (setted ms l′) (s .still t) ∙ ap (λ z. setted ms z c) d;
+      fixed = s .fixed;
+    }
+
+pub setted-pulled : (ms : List Member) (l : List Row) (c : Consents) (f : Bool) (a : ℕ) (i : List ℕ) (l′ : List Row) (c′ : Consents) (f′ answer : Bool)
+    → Pulled l c f a i l′ c′ f′ answer → Pulled l (setted ms l c) f a i l′ (setted ms l′ c′) f′ answer
+setted-pulled ms l c f a i l′ c′ f′ answer s =
+    record {
+      told = s .told;
+      rows = s .rows;
+      still = λ t.
+          let d : l′ ≡ l = rw t at (s .rows) in
+          ap (setted ms l′) (s .still t) ∙ ap (λ z. setted ms z c) d;
+      fixed = s .fixed;
     }

@@ -4,8 +4,8 @@ ghost use mathlib.Core.Bool.{true, not, _&&_};
 ghost use lib.ListN.{length};
 ghost use Rattle.std.specs.shelf.Text.{sameBytes};
 ghost use Rattle.host.specs.Rows.{look, any};
-ghost use Rattle.host.specs.Hosts.{differs, Switched};
-ghost use Rattle.layers.specs.Sets.{rival, set-on, setted};
+ghost use Rattle.host.specs.Hosts.{differs, Switched, Plugged, Pulled};
+ghost use Rattle.layers.specs.Sets.{rival, set-on, setted, AtMostOne};
 ghost use Rattle.layers.specs.Clearing.{Cleared};
 ghost use Rattle.layers.specs.Lawfulness.{setted-lawful};
 ghost use Rattle.layers.specs.Models.{members-of};
@@ -179,7 +179,13 @@ pub impl<B: Host> Host for Sets<B> as SetsHost {
         self.below.is_fixed()
     }
 
-    fn switch(&mut self, address: u8, id: [u8; 5], on: bool) -> bool {
+    // Beside what a host promises, the three calls that change rows promise that a set with at most one row on at an address
+    // never comes to have two.
+    fn switch(&mut self, address: u8, id: [u8; 5], on: bool) -> bool
+        ensures does { λ r. ⌜ Switched (B·Host .listing (now (self .entry) .below)) (setted (members-of (now (self .entry) .members)) (B·Host .listing (now (self .entry) .below)) (B·Host .consents (now (self .entry) .below))) (B·Host .fixed (now (self .entry) .below)) address id on (B·Host .listing (now (self .exit) .below)) (setted (members-of (now (self .exit) .members)) (B·Host .listing (now (self .exit) .below)) (B·Host .consents (now (self .exit) .below))) (B·Host .fixed (now (self .exit) .below)) r ⌝ }
+        ensures same { λ _. ⌜ (members-of (now (self .entry) .members) ≡ members-of (now (self .exit) .members)) × B·Host .keeps (now (self .entry) .below) (now (self .exit) .below) ⌝ }
+        ensures one { λ _. ⌜ (AtMostOne (members-of (now (self .entry) .members)) (B·Host .listing (now (self .entry) .below)) → AtMostOne (members-of (now (self .exit) .members)) (B·Host .listing (now (self .exit) .below))) ⌝ }
+    {
         if on {
             switch_on(&mut self.below, &self.members, address, id)
         } else {
@@ -187,11 +193,19 @@ pub impl<B: Host> Host for Sets<B> as SetsHost {
         }
     }
 
-    fn plug(&mut self, address: u8, id: [u8; 5]) -> bool {
+    fn plug(&mut self, address: u8, id: [u8; 5]) -> bool
+        ensures does { λ r. ⌜ Plugged (B·Host .listing (now (self .entry) .below)) (setted (members-of (now (self .entry) .members)) (B·Host .listing (now (self .entry) .below)) (B·Host .consents (now (self .entry) .below))) (B·Host .fixed (now (self .entry) .below)) address id (B·Host .listing (now (self .exit) .below)) (setted (members-of (now (self .exit) .members)) (B·Host .listing (now (self .exit) .below)) (B·Host .consents (now (self .exit) .below))) (B·Host .fixed (now (self .exit) .below)) r ⌝ }
+        ensures same { λ _. ⌜ (members-of (now (self .entry) .members) ≡ members-of (now (self .exit) .members)) × B·Host .keeps (now (self .entry) .below) (now (self .exit) .below) ⌝ }
+        ensures one { λ _. ⌜ (AtMostOne (members-of (now (self .entry) .members)) (B·Host .listing (now (self .entry) .below)) → AtMostOne (members-of (now (self .exit) .members)) (B·Host .listing (now (self .exit) .below))) ⌝ }
+    {
         self.below.plug(address, id)
     }
 
-    fn pull(&mut self, address: u8, id: [u8; 5]) -> bool {
+    fn pull(&mut self, address: u8, id: [u8; 5]) -> bool
+        ensures does { λ r. ⌜ Pulled (B·Host .listing (now (self .entry) .below)) (setted (members-of (now (self .entry) .members)) (B·Host .listing (now (self .entry) .below)) (B·Host .consents (now (self .entry) .below))) (B·Host .fixed (now (self .entry) .below)) address id (B·Host .listing (now (self .exit) .below)) (setted (members-of (now (self .exit) .members)) (B·Host .listing (now (self .exit) .below)) (B·Host .consents (now (self .exit) .below))) (B·Host .fixed (now (self .exit) .below)) r ⌝ }
+        ensures same { λ _. ⌜ (members-of (now (self .entry) .members) ≡ members-of (now (self .exit) .members)) × B·Host .keeps (now (self .entry) .below) (now (self .exit) .below) ⌝ }
+        ensures one { λ _. ⌜ (AtMostOne (members-of (now (self .entry) .members)) (B·Host .listing (now (self .entry) .below)) → AtMostOne (members-of (now (self .exit) .members)) (B·Host .listing (now (self .exit) .below))) ⌝ }
+    {
         self.below.pull(address, id)
     }
 }
