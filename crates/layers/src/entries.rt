@@ -4,6 +4,7 @@ ghost use mathlib.Core.Bool.{Bool, _&&_};
 ghost use lib.Dec.{leb};
 ghost use Prim.Native.Nat.{_≤_};
 ghost use lib.ListN.{length, take};
+ghost use Rattle.std.specs.shelf.Text.{sameBytes};
 ghost use Rattle.rising.specs.Lists.{rising};
 ghost use Rattle.layers.specs.Lists.{every, judged};
 use message::Refusal;
@@ -54,4 +55,11 @@ pub fn lay<T: Copy>(list: &[T], slots: &mut [T])
     ensures whole { λ _. ⌜ length (now (slots .exit)) ≡ length (now (slots .entry)) ⌝ }
 {
     slots[0..list.len()].copy_from_slice(list);
+}
+
+/// Whether two IDs have the same bytes.
+pub fn same_id(one: [u8; 5], other: [u8; 5]) -> bool
+    ensures { λ r. ⌜ r ≡ sameBytes one other ⌝ }
+{
+    one == other
 }

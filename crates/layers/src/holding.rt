@@ -1,6 +1,8 @@
 //! A layer that withholds consents.
 ghost use mathlib.Core.Path.{_≡_, refl, _∙_};
-ghost use Rattle.layers.specs.Holding.{held};
+ghost use mathlib.Core.Bool.{false};
+ghost use Rattle.host.specs.Hosts.{Switched};
+ghost use Rattle.layers.specs.Holding.{held, withheld};
 ghost use Rattle.layers.specs.Lawfulness.{held-lawful};
 ghost use Rattle.layers.specs.Models.{pairs-of};
 use crate::pairs::Pairs;
@@ -29,6 +31,15 @@ impl<B> Holding<B> {
     {
         &self.below
     }
+}
+
+// Passes a switch of a row on to the host below, which is the layer's where the row is not among the pairs.
+fn pass_switch<B: Host>(below: &mut B, pairs: &Pairs, address: u8, id: [u8; 5], on: bool) -> bool
+    requires { ⌜ withheld (pairs-of (now pairs)) address id ≡ false ⌝ }
+    ensures does { λ r. ⌜ Switched (B·Host .listing (now (below .entry))) (held (pairs-of (now (pairs .entry))) (B·Host .consents (now (below .entry)))) (B·Host .fixed (now (below .entry))) address id on (B·Host .listing (now (below .exit))) (held (pairs-of (now (pairs .entry))) (B·Host .consents (now (below .exit)))) (B·Host .fixed (now (below .exit))) r ⌝ }
+    ensures same { λ _. ⌜ B·Host .keeps (now (below .entry)) (now (below .exit)) ⌝ }
+{
+    below.switch(address, id, on)
 }
 
 pub impl<B: Host> Host for Holding<B> as HoldingHost {
@@ -67,7 +78,8 @@ pub impl<B: Host> Host for Holding<B> as HoldingHost {
     }
 
     fn switch(&mut self, address: u8, id: [u8; 5], on: bool) -> bool {
-        !self.pairs.contains(address, id) && self.below.switch(address, id, on)
+        !self.pairs.contains(address, id)
+            && pass_switch(&mut self.below, &self.pairs, address, id, on)
     }
 
     fn plug(&mut self, address: u8, id: [u8; 5]) -> bool {

@@ -10,8 +10,6 @@ use crate::member::Member;
 // The calls stand apart: what they promise names the value, which cannot be done where it is declared.
 mod calls;
 
-pub use calls::same_id;
-
 /// Up to 16 members of sets, in range and rising by ID, so that an ID is in one set at most.
 #[derive(Clone, Copy)]
 pub struct Members {

@@ -9,8 +9,8 @@ ghost use Rattle.layers.specs.Sets.{rival, set-on, setted, AtMostOne};
 ghost use Rattle.layers.specs.Clearing.{Cleared};
 ghost use Rattle.layers.specs.Lawfulness.{setted-lawful};
 ghost use Rattle.layers.specs.Models.{members-of};
+use crate::entries::same_id;
 use crate::members::Members;
-use crate::members::same_id;
 use host::Host;
 use message::Row;
 use message::row::RowKeyed;
@@ -127,19 +127,27 @@ fn put_off<B: Host>(below: &mut B, members: &Members, address: u8, id: [u8; 5])
     }
 }
 
-// Switches a row on, once its rivals are off.
+// Switches a row on below, once its rivals are off.
+fn put_on<B: Host>(below: &mut B, members: &Members, address: u8, id: [u8; 5]) -> bool
+    requires { ⌜ set-on (members-of (now members)) (B·Host .listing (now below)) (B·Host .consents (now below)) address id ≡ true ⌝ }
+    requires { ⌜ differs (look (B·Host .listing (now below)) address id) true ≡ true ⌝ }
+    ensures does { λ r. ⌜ Switched (B·Host .listing (now (below .entry))) (setted (members-of (now (members .entry))) (B·Host .listing (now (below .entry))) (B·Host .consents (now (below .entry)))) (B·Host .fixed (now (below .entry))) address id true (B·Host .listing (now (below .exit))) (setted (members-of (now (members .entry))) (B·Host .listing (now (below .exit))) (B·Host .consents (now (below .exit)))) (B·Host .fixed (now (below .exit))) r ⌝ }
+    ensures same { λ _. ⌜ B·Host .keeps (now (below .entry)) (now (below .exit)) ⌝ }
+{
+    put_off(below, members, address, id);
+    below.switch(address, id, true)
+}
+
+// Switches a row on, if the layer consents and the row is off.
 fn switch_on<B: Host>(below: &mut B, members: &Members, address: u8, id: [u8; 5]) -> bool
     ensures does { λ r. ⌜ Switched (B·Host .listing (now (below .entry))) (setted (members-of (now (members .entry))) (B·Host .listing (now (below .entry))) (B·Host .consents (now (below .entry)))) (B·Host .fixed (now (below .entry))) address id true (B·Host .listing (now (below .exit))) (setted (members-of (now (members .entry))) (B·Host .listing (now (below .exit))) (B·Host .consents (now (below .exit)))) (B·Host .fixed (now (below .exit))) r ⌝ }
     ensures same { λ _. ⌜ B·Host .keeps (now (below .entry)) (now (below .exit)) ⌝ }
 {
-    if !consents_on(below, members, address, id) {
-        return false;
+    if consents_on(below, members, address, id) && is_off(below, address, id) {
+        put_on(below, members, address, id)
+    } else {
+        false
     }
-    if !is_off(below, address, id) {
-        return false;
-    }
-    put_off(below, members, address, id);
-    below.switch(address, id, true)
 }
 
 pub impl<B: Host> Host for Sets<B> as SetsHost {

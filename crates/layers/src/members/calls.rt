@@ -4,7 +4,6 @@ ghost use mathlib.Core.Bool.{true, _&&_};
 ghost use Prim.Native.Nat.{_≤_, _<_};
 ghost use lib.Dec.{leb};
 ghost use lib.ListN.{length};
-ghost use Rattle.std.specs.shelf.Text.{sameBytes};
 ghost use Rattle.std.specs.Options.{Cases as BySome};
 ghost use Rattle.rising.specs.Lists.{rising, Rising};
 ghost use Rattle.layers.specs.Lists.{every, judged, Made, member-key, member-ranged};
@@ -13,19 +12,13 @@ ghost use Rattle.layers.specs.Sets.{set-of, together, rival};
 use super::Members;
 use crate::entries::judge;
 use crate::entries::lay;
+use crate::entries::same_id;
 use crate::member::Member;
 use crate::member::MemberKeyed;
 use crate::member::MemberRanged;
 use message::Refusal;
 use message::Row;
 use rising::find;
-
-// Whether two IDs have the same bytes.
-pub fn same_id(one: [u8; 5], other: [u8; 5]) -> bool
-    ensures { λ r. ⌜ r ≡ sameBytes one other ⌝ }
-{
-    one == other
-}
 
 impl Members {
     /// The list of these members. Refused if one is out of range, and else if they do not rise strictly or are more than 16.
@@ -51,8 +44,8 @@ impl Members {
         &self.slots[0..self.count]
     }
 
-    /// The set that an ID is in, if it is in one.
-    pub fn set_of(&self, id: [u8; 5]) -> Option<u8>
+    // The set that an ID is in, if it is in one.
+    fn set_of(&self, id: [u8; 5]) -> Option<u8>
         ensures { λ r. ⌜ BySome r (set-of (members-of (now (self .entry))) id ≡ 0) (λ s. (set-of (members-of (now (self .entry))) id ≡ s) × (0 < s)) ⌝ }
     {
         let list = self.as_slice();

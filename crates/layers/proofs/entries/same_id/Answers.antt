@@ -1,6 +1,6 @@
 use borrow.Author.Needs.{needs}
 use Rattle.std.proofs.shelf.Equals.{matches-decides, sameBytes-decides}
-use Rattle.layers.proofs.members.calls.same_id.Needs as need
+use Rattle.layers.proofs.entries.same_id.Needs as need
 
 pub returns : need.returns
 returns c =
