@@ -1,23 +1,21 @@
 -- Rows of a listing by their places, and tests that some row passes.
-use mathlib.Core.Path.{_≡_, refl, sym, ap, subst, _∙_}
+use mathlib.Core.Path.{_≡_, refl, sym, ap, _∙_}
 use mathlib.Core.List.{List, [], _∷_, map}
-use mathlib.Core.Bool.{Bool, true, false, not, cond, _&&_, _||_}
+use mathlib.Core.Bool.{Bool, true, false, not, cond, _||_}
 use mathlib.Core.Logic.{_⊎_, ⊎-elim}
 use Prim.Native.Nat.{ℕ, zero, suc, _+_, _<_, _≤_}
 use native.Mathlib.Omega.{arith}
-use lib.Dec.{eqb}
 use lib.ListN.{length, getD, drop}
-use Rattle.std.specs.shelf.Text.{sameBytes}
 use Rattle.std.specs.declared.option.Option.{Option}
 use Rattle.std.specs.declared.option.Option.the-variants.{Some, None}
 use Rattle.std.proofs.shelf.Lists.{at-drop-more, at-drop-all, getD-default}
-use Rattle.std.proofs.shelf.Tests.{and-parts, or-left, or-right, or-from, or-parts, or-cases, both-ways, cases-bool}
+use Rattle.std.proofs.shelf.Tests.{or-left, or-right, or-from, or-parts, both-ways, cases-bool}
 use Rattle.rising.specs.Order.{same-key}
 use Rattle.rising.specs.Lists.{found, Rising}
 use Rattle.rising.proofs.Lists.{found-stands}
 use Rattle.message.specs.Rows.{row-key}
 use Rattle.message.specs.declared.row.Row.{Row}
-use Rattle.host.specs.Rows.{row, same, look, any}
+use Rattle.host.specs.Rows.{row, look, any}
 use Rattle.host.specs.Hosts.{differs}
 use Rattle.layers.proofs.Places.{same-ways}
 

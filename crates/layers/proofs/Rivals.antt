@@ -1,6 +1,6 @@
 -- Rows of one set that are on at one address, over a switch, a plug and a pull through the sets layer.
-use mathlib.Core.Path.{_≡_, refl, sym, ap, subst, _∙_}
-use mathlib.Core.Bool.{Bool, true, false, cond, not, _&&_, _||_}
+use mathlib.Core.Path.{_≡_, refl, sym, subst}
+use mathlib.Core.Bool.{Bool, true, false, cond, not, _&&_}
 use mathlib.Core.List.{List, [], _∷_, map}
 use Prim.Native.Nat.{ℕ, _+_, _<_, _≤_}
 use native.Mathlib.Omega.{arith}
@@ -19,7 +19,7 @@ use Rattle.message.specs.declared.row.Row.{Row}
 use Rattle.host.specs.Rows.{row, same, look, without-row, any}
 use Rattle.host.specs.Hosts.{Consents, differs, goes, turned}
 use Rattle.layers.specs.declared.member.Member.{Member}
-use Rattle.layers.specs.Sets.{set-of, together, rival, set-on, setted, count-on, AtMostOne}
+use Rattle.layers.specs.Sets.{set-of, rival, set-on, setted, count-on, AtMostOne}
 
 same-parts : (a : ℕ) (i : List ℕ) (r : Row) → same a i r ≡ true → (a ≡ r .address) × (i ≡ r .id)
 same-parts a i r e = let p = and-parts (eqb a (r .address)) (sameBytes i (r .id)) e in (eqb-true a (r .address) (p .0), sameBytes-decides i (r .id) .0 (p .1))

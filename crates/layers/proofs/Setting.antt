@@ -3,16 +3,16 @@ use mathlib.Core.Path.{_≡_, refl, sym, ap, subst, _∙_}
 use mathlib.Core.List.{List, [], _∷_, map}
 use mathlib.Core.Bool.{Bool, true, false, not, _&&_, _||_, cond}
 use mathlib.Core.Logic.{_⊎_, ⊎-elim}
-use Prim.Native.Nat.{ℕ, suc, _+_, _≤_, _<_}
+use Prim.Native.Nat.{ℕ, suc, _+_, _<_}
 use native.Mathlib.Omega.{arith}
 use borrow.Author.Count.{below-more}
 use lib.Dec.{eqb}
 use lib.ListN.{length, getD}
 use Rattle.std.specs.shelf.Text.{sameBytes}
 use Rattle.std.specs.declared.option.Option.{Option}
-use Rattle.std.specs.declared.option.Option.the-variants.{Some, None}
+use Rattle.std.specs.declared.option.Option.the-variants.{Some}
 use Rattle.std.proofs.shelf.Lists.{length-map, getD-map, getD-default}
-use Rattle.std.proofs.shelf.Tests.{or-left, or-right, or-cases, or-parts, and-parts, and-from, and-left, and-right, not-true, not-false, not-from-false, not-from-true, eqb-true, both-ways, cases-bool}
+use Rattle.std.proofs.shelf.Tests.{or-left, or-right, or-cases, or-parts, and-parts, and-from, and-left, and-right, not-true, not-false, not-from-false, eqb-true, both-ways, cases-bool}
 use Rattle.std.proofs.shelf.Equals.{sameBytes-decides}
 use Rattle.rising.specs.Lists.{Rising}
 use Rattle.message.specs.Rows.{row-key}
@@ -20,7 +20,7 @@ use Rattle.message.specs.declared.row.Row.{Row}
 use Rattle.host.specs.Rows.{row, same, look, any}
 use Rattle.host.specs.Hosts.{Consents, differs, goes, turned, Kept, Switched, Plugged, Pulled}
 use Rattle.layers.specs.declared.member.Member.{Member}
-use Rattle.layers.specs.Sets.{together, rival, set-on, setted}
+use Rattle.layers.specs.Sets.{rival, set-on, setted}
 use Rattle.layers.specs.Clearing.{cleared, Cleared}
 use Rattle.layers.specs.Lawfulness.{only, Rival, rival-parts, bytes-turn}
 use Rattle.layers.proofs.Lookups.{look-at, any-at, none-at, any-comp, any-less, any-same, map-comp, map-same}

@@ -1,7 +1,7 @@
 -- What the host below does is what the layer that withholds does, where it withholds nothing.
-use mathlib.Core.Path.{_≡_, refl, sym, ap, _∙_}
+use mathlib.Core.Path.{_≡_, sym, ap, _∙_}
 use mathlib.Core.List.{List}
-use mathlib.Core.Bool.{Bool, true, false, cond, _&&_}
+use mathlib.Core.Bool.{Bool, true, false, _&&_}
 use Prim.Native.Nat.{ℕ}
 use Rattle.message.specs.declared.row.Row.{Row}
 use Rattle.host.specs.Rows.{look}

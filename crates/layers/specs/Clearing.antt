@@ -1,6 +1,6 @@
 -- How far the sets layer has come below while it puts rivals off, one by one, before a row goes on.
 use mathlib.Core.Path.{_≡_}
-use mathlib.Core.List.{List, [], map}
+use mathlib.Core.List.{List, map}
 use mathlib.Core.Bool.{Bool, true, false, _&&_, cond}
 use Prim.Native.Nat.{ℕ, _<_}
 use lib.Dec.{eqb}

@@ -1,22 +1,21 @@
 -- That a layer over a lawful host is lawful.
-use mathlib.Core.Path.{_≡_, refl, sym, ap, subst, _∙_}
+use mathlib.Core.Path.{_≡_, refl, sym, ap, subst}
 use mathlib.Core.List.{List, [], _∷_}
-use mathlib.Core.Bool.{Bool, true, false, not, cond, _&&_, _||_}
+use mathlib.Core.Bool.{Bool, true, false, not, cond, _&&_}
 use mathlib.Core.Logic.{_⊎_, ⊎-elim}
 use Prim.Native.Nat.{ℕ}
 use lib.Dec.{eqb}
 use Rattle.std.specs.shelf.Text.{sameBytes}
 use Rattle.std.proofs.shelf.Tests.{both-ways, and-parts, and-from, or-cases, not-true, cond-true, cases-bool}
 use Rattle.std.proofs.shelf.Equals.{sameBytes-decides}
-use Rattle.std.specs.declared.option.Option.{Option}
-use Rattle.std.specs.declared.option.Option.the-variants.{Some, None}
+use Rattle.std.specs.declared.option.Option.the-variants.{Some}
 use Rattle.message.specs.declared.row.Row.{Row}
 use Rattle.host.specs.Rows.{same, look, is-there, has, any}
 use Rattle.host.specs.Hosts.{Consents, Lawful}
 use Rattle.layers.specs.declared.pair.Pair.{Pair}
 use Rattle.layers.specs.declared.member.Member.{Member}
 use Rattle.layers.specs.Holding.{withheld, held}
-use Rattle.layers.specs.Sets.{together, rival, set-on, setted}
+use Rattle.layers.specs.Sets.{together, rival, setted}
 
 -- what is withheld is not given
 pub only : (b x : Bool) → cond b false x ≡ true → (b ≡ false) × (x ≡ true)

@@ -6,12 +6,11 @@ use Prim.Native.Nat.{ℕ, _+_, _≤_}
 use native.Mathlib.Omega.{arith}
 use lib.Dec.{eqb}
 use Rattle.std.specs.shelf.Text.{sameBytes}
-use Rattle.std.specs.declared.option.Option.{Option}
 use Rattle.std.specs.declared.option.Option.the-variants.{Some, None}
-use Rattle.std.proofs.shelf.Tests.{and-parts, or-left, eqb-true, both-ways}
+use Rattle.std.proofs.shelf.Tests.{and-parts, or-left, eqb-true}
 use Rattle.std.proofs.shelf.Equals.{sameBytes-decides}
 use Rattle.message.specs.declared.row.Row.{Row}
-use Rattle.host.specs.Rows.{row, is-there, has, tally, Sound}
+use Rattle.host.specs.Rows.{row, is-there, has}
 use Rattle.host.specs.Hosts.{Consents, Lawful}
 
 -- the ID of the profile with a number

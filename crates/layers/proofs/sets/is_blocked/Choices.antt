@@ -1,7 +1,6 @@
 use mathlib.Core.Path.{_≡_}
 use mathlib.Core.Bool.{not, _&&_}
 use lib.ListN.{drop}
-use Rattle.std.specs.shelf.Text.{sameBytes}
 use Rattle.host.specs.Rows.{any}
 use Rattle.layers.specs.Models.{members-of}
 use Rattle.layers.specs.Sets.{rival}

@@ -1,16 +1,13 @@
 use native.Mathlib.Omega.{arith}
-use mathlib.Core.Path.{_≡_, sym, ap, _∙_}
-use mathlib.Core.Bool.{Bool, not, _&&_}
+use mathlib.Core.Path.{sym, ap}
+use mathlib.Core.Bool.{false, _&&_}
 use mathlib.Core.List.{[]}
 use Rattle.std.specs.shelf.Text.{sameBytes}
-use Rattle.std.proofs.shelf.Lists.{at-drop-all}
-use Rattle.message.specs.declared.row.Row.{Row}
 use Rattle.host.specs.Rows.{row, any}
 use Rattle.layers.specs.Models.{members-of}
 use Rattle.layers.specs.Sets.{rival}
 use Rattle.layers.proofs.Lookups.{any-here, any-passed, any-done}
 use Rattle.layers.proofs.sets.names_rival.Needs as need
-use mathlib.Core.Bool.{false}
 
 pub loop-k-holds : need.loop-k-holds
 loop-k-holds g c =

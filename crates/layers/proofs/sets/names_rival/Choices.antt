@@ -1,5 +1,5 @@
 use mathlib.Core.Path.{_≡_}
-use mathlib.Core.Bool.{not, _&&_}
+use mathlib.Core.Bool.{_&&_}
 use lib.ListN.{drop}
 use Rattle.std.specs.shelf.Text.{sameBytes}
 use Rattle.host.specs.Rows.{any}

@@ -1,8 +1,8 @@
 use native.Mathlib.Omega.{arith}
 use mathlib.Core.Path.{_≡_, sym, ap, _∙_, subst}
 use mathlib.Core.List.{List}
-use mathlib.Core.Bool.{Bool, true, false}
-use Prim.Native.Nat.{ℕ, _+_, _<_}
+use mathlib.Core.Bool.{false}
+use Prim.Native.Nat.{_+_, _<_}
 use lib.ListN.{length, getD}
 use Rattle.message.specs.declared.row.Row.{Row}
 use Rattle.host.specs.Hosts.{Switched}

@@ -1,4 +1,3 @@
-use mathlib.Core.Path.{sym, _∙_}
 use Rattle.layers.specs.Models.{members-of}
 use Rattle.layers.proofs.Setting.{setted-on}
 use Rattle.layers.proofs.sets.put_on.Needs as need

@@ -1,6 +1,5 @@
-use mathlib.Core.Path.{_≡_, sym, ap, _∙_}
+use mathlib.Core.Path.{ap, _∙_}
 use mathlib.Core.List.{[]}
-use lib.ListN.{getD}
 use Rattle.layers.specs.declared.member.Member.{Member}
 use Rattle.layers.proofs.Places.{set-in, set-found, set-positive}
 use Rattle.layers.proofs.members.Members.set_of.Needs as need

@@ -1,4 +1,3 @@
-use mathlib.Core.Path.{_≡_}
 use native.Mathlib.Omega.{arith}
 use Rattle.layers.specs.Lists.{pair-key, pair-ranged}
 use Rattle.layers.proofs.Places.{accepted}

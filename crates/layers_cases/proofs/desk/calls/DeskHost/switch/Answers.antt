@@ -1,4 +1,4 @@
-use mathlib.Core.Path.{_≡_, sym}
+use mathlib.Core.Path.{sym}
 use Rattle.layers_cases.proofs.Moves.{at-number, first-moves, second-moves}
 use Rattle.layers_cases.proofs.desk.calls.DeskHost.switch.Needs as need
 
