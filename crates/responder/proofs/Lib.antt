@@ -1,5 +1,0 @@
-pub mod Asking
-pub mod Inquiring
-pub mod Opening
-pub mod Sendings
-pub mod Replies
