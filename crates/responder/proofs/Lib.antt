@@ -1,0 +1,5 @@
+pub mod Asking
+pub mod Inquiring
+pub mod Opening
+pub mod Sendings
+pub mod Replies

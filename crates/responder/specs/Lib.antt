@@ -1,0 +1,5 @@
+pub mod Inquiries
+pub mod Plans
+pub mod Actions
+pub mod Steps
+pub mod Models

@@ -1,0 +1,55 @@
+//! The calls of a responder.
+ghost use mathlib.Core.Path.{_≡_};
+ghost use mathlib.Core.List.{[]};
+ghost use Prim.Native.Nat.{ℕ, _%_};
+ghost use lib.ListN.{length};
+ghost use Rattle.numbers.specs.Model.{own-of, listed-of};
+ghost use Rattle.responder.specs.Models.{state-of};
+ghost use Rattle.responder.specs.Plans.{announcing};
+ghost use Rattle.responder.specs.Steps.{outcome, Done, Rest};
+use crate::responder::Responder;
+use crate::sending::write_one;
+use host::Host;
+use message::Identity;
+use message::Muid;
+use message::Refusal;
+use message::Sent;
+use numbers::Numbers;
+
+/// The least answer buffer.
+const ROOM: usize = 1024;
+
+impl<P: Host> Responder<P> {
+    /// A responder over a host, with the own number that the draw gives. Nobody is listed.
+    pub fn start(host: P, identity: Identity, draw: u32) -> Responder<P>
+        ensures host { λ r. ⌜ r .host ≡ host ⌝ }
+        ensures identity { λ r. ⌜ r .identity ≡ identity ⌝ }
+        ensures own { λ r. ⌜ state-of r .own ≡ draw % 268435200 ⌝ }
+        ensures others { λ r. ⌜ state-of r .others ≡ [] ⌝ }
+    {
+        Responder {
+            host,
+            identity,
+            numbers: Numbers::start(draw),
+        }
+    }
+
+    /// The own MUID.
+    fn own(&self) -> Muid
+        ensures { λ r. ⌜ r .number ≡ own-of (now (self .entry) .numbers) ⌝ }
+    {
+        Muid::drawn(self.numbers.own())
+    }
+
+    /// Writes a Discovery from the own number, by which other devices learn of this one.
+    pub fn announce(&self, answer: &mut [u8]) -> Result<usize, Refusal>
+        ensures does { λ r. ⌜ Done (P·Host .listing) (P·Host .consents) (P·Host .fixed) (P·Host .keeps) (announcing (now (self .entry) .identity) (own-of (now (self .entry) .numbers)) (listed-of (now (self .entry) .numbers)) (P·Host .listing (now (self .entry) .host)) (length (now (answer .entry)))) (state-of (now (self .entry))) (outcome r (now (answer .exit))) (state-of (now (self .entry))) ⌝ }
+        ensures rest { λ r. ⌜ Rest r (now (answer .entry)) (now (answer .exit)) ⌝ }
+    {
+        if answer.len() < ROOM {
+            return Err(Refusal::BufferTooSmall);
+        }
+        let identity = self.identity;
+        write_one(Sent::Discovery { identity }, self.own(), answer)
+    }
+}

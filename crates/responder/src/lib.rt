@@ -1,0 +1,9 @@
+//! The responder: start, announce and take, over any host.
+mod action;
+mod calls;
+mod deciding;
+mod listing;
+pub mod responder;
+mod sending;
+
+pub use responder::Responder;
