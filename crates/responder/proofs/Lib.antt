@@ -3,3 +3,4 @@ pub mod Inquiring
 pub mod Opening
 pub mod Sendings
 pub mod Replies
+pub mod Reports

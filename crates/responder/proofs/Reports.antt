@@ -1,0 +1,104 @@
+-- Reports of a switch: which rows they are about, and how many.
+use mathlib.Core.Path.{_≡_, refl, sym, ap, subst, _∙_}
+use mathlib.Core.List.{List, [], _∷_, _++_, map}
+use mathlib.Core.Bool.{Bool, true, false, not, _&&_, _||_, cond}
+use Prim.Native.Nat.{ℕ, suc, _+_, _*_, _≤_, _<_}
+use native.Mathlib.Omega.{arith}
+use lib.Dec.{eqb}
+use lib.ListN.{length}
+use Rattle.std.specs.shelf.Lists.{All}
+use Rattle.std.specs.shelf.Text.{sameBytes}
+use Rattle.std.specs.declared.option.Option.{Option}
+use Rattle.std.specs.declared.option.Option.the-variants.{Some, None}
+use Rattle.std.proofs.shelf.Tests.{and-parts, both-ways, eqb-true, eq-eqb, not-true}
+use Rattle.rising.specs.Order.{Before, same-key}
+use Rattle.rising.specs.Lists.{leads, rising, Rising}
+use Rattle.rising.proofs.Order.{differs-below, same-refl}
+use Rattle.message.specs.Rows.{row-key, keep}
+use Rattle.message.specs.declared.row.Row.{Row}
+use Rattle.host.specs.Rows.{row, same, look, is-on, tally, Sound}
+use Rattle.host.specs.Hosts.{Consents, goes, turned, Switched}
+use Rattle.host.proofs.Keys.{key-same}
+use Rattle.responder.specs.Steps.{put-off}
+
+-- every row of a rising list is the one that its address and ID find
+abbrev Found : List Row → Row → Type 0
+Found l r = look l (r .address) (r .id) ≡ Some (r .on)
+
+behind : (x : Row) (xs ys : List Row) → leads row-key x ys ≡ true → All (Found xs) ys → All (Found (x ∷ xs)) ys
+behind x xs [] h a = tt
+behind x xs (y ∷ ys) h a =
+    let p = and-parts _ _ h in
+    let e : same (y .address) (y .id) x ≡ false = sym (key-same (y .address) (y .id) x) ∙ differs-below (row-key x) (row-key y) (p .0) in
+    (rw e (a .0), behind x xs ys (p .1) (a .1))
+
+pub all-found : (l : List Row) → Rising row-key l → All (Found l) l
+all-found [] h = tt
+all-found (x ∷ xs) h =
+    let p = and-parts _ _ h in
+    let e : same (x .address) (x .id) x ≡ true = sym (key-same (x .address) (x .id) x) ∙ same-refl (row-key x) in
+    (rw e, behind x xs xs (p .0) (all-found xs (p .1)))
+
+-- a switch leaves rows at other addresses as they are
+elsewhere-go : (a : ℕ) (i : List ℕ) (on : Bool) (N : List ℕ → Bool) (r : Row) (b : ℕ) (j : List ℕ) (y z : Option Bool) (k : Bool) → eqb a b ≡ false → y ≡ z
+    → (eqb b (r .address) && sameBytes j (r .id)) ≡ k → cond k (Some (turned a i on N r .on)) y ≡ cond k (Some (r .on)) z
+elsewhere-go a i on N r b j y z false h e t = e
+elsewhere-go a i on N r b j y z true h e t =
+    let p = and-parts (eqb b (r .address)) (sameBytes j (r .id)) t in
+    let q : eqb a (r .address) ≡ false = ap (λ (n : ℕ). eqb a n) (sym (eqb-true b (r .address) (p .0))) ∙ h in
+    go on (eqb a (r .address)) (sameBytes i (r .id)) (N (r .id)) q
+  where
+    go : (on c s n : Bool) → c ≡ false → _≡_ {A = Option Bool} (Some (cond (c && s) on (cond (on && (c && n)) false (r .on)))) (Some (r .on))
+    go true false s n h = refl
+    go false false s n h = refl
+    go on true s n h = absurd (both-ways true h refl)
+
+look-elsewhere : (a : ℕ) (i : List ℕ) (on : Bool) (N : List ℕ → Bool) (l : List Row) (b : ℕ) (j : List ℕ) → eqb a b ≡ false → look (map (turned a i on N) l) b j ≡ look l b j
+look-elsewhere a i on N [] b j h = refl
+look-elsewhere a i on N (r ∷ l) b j h = elsewhere-go a i on N r b j _ _ (same b j r) h (look-elsewhere a i on N l b j h) refl
+
+switched-elsewhere : (a : ℕ) (i : List ℕ) (on : Bool) (N : List ℕ → Bool) (l : List Row) (g : Bool) (b : ℕ) (j : List ℕ) → eqb a b ≡ false
+    → look (cond g (map (turned a i on N) l) l) b j ≡ look l b j
+switched-elsewhere a i on N l true b j h = look-elsewhere a i on N l b j h
+switched-elsewhere a i on N l false b j h = refl
+
+-- the rows that pass a test which holds only at an address are at most as many as stand there
+kept-few : (p : Row → Bool) (a : ℕ) (l : List Row) → All (λ r. p r ≡ true → eqb a (r .address) ≡ true) l → length (keep p l) ≤ tally a l
+kept-few p a [] h = omega arith
+kept-few p a (r ∷ l) h = go (p r) (eqb a (r .address)) (h .0) (kept-few p a l (h .1))
+  where
+    go : (b c : Bool) → (b ≡ true → c ≡ true) → length (keep p l) ≤ tally a l → length (cond b (r ∷ keep p l) (keep p l)) ≤ cond c 1 0 + tally a l
+    go true true f k = omega arith
+    go true false f k = absurd (both-ways false refl (f refl))
+    go false true f k = omega arith
+    go false false f k = omega arith
+
+abbrev fell : ℕ → List ℕ → List Row → Row → Bool
+fell a i l′ r = r .on && (not (same a i r) && not (is-on (look l′ (r .address) (r .id))))
+
+fell-here : (a : ℕ) (i : List ℕ) (l l′ : List Row) (r : Row) → ((b : ℕ) (j : List ℕ) → eqb a b ≡ false → look l′ b j ≡ look l b j) → Found l r
+    → fell a i l′ r ≡ true → eqb a (r .address) ≡ true
+fell-here a i l l′ r e f t = go (eqb a (r .address)) refl
+  where
+    go : (b : Bool) → eqb a (r .address) ≡ b → b ≡ true
+    go true h = refl
+    go false h =
+        let p = and-parts (r .on) _ t in
+        let q = and-parts (not (same a i r)) _ (p .1) in
+        let s : look l′ (r .address) (r .id) ≡ Some (r .on) = e (r .address) (r .id) h ∙ f in
+        let u : is-on (look l′ (r .address) (r .id)) ≡ true = ap is-on s ∙ p .0 in
+        absurd (both-ways (is-on (look l′ (r .address) (r .id))) (not-true _ (q .1)) u)
+
+all-here : (a : ℕ) (i : List ℕ) (l l′ xs : List Row) → ((b : ℕ) (j : List ℕ) → eqb a b ≡ false → look l′ b j ≡ look l b j) → All (Found l) xs
+    → All (λ r. fell a i l′ r ≡ true → eqb a (r .address) ≡ true) xs
+all-here a i l l′ [] e f = tt
+all-here a i l l′ (r ∷ xs) e f = (fell-here a i l l′ r e (f .0), all-here a i l l′ xs e (f .1))
+
+-- at most 21 rows are put off
+pub put-off-few : (l : List Row) (c : Consents) (f : Bool) (a : ℕ) (i : List ℕ) (on : Bool) (l′ : List Row) (c′ : Consents) (f′ answer : Bool) → Sound l
+    → Switched l c f a i on l′ c′ f′ answer → length (put-off a i l l′) ≤ 21
+put-off-few l c f a i on l′ c′ f′ answer s w =
+    let e : (b : ℕ) (j : List ℕ) → eqb a b ≡ false → look l′ b j ≡ look l b j =
+    λ b j h. ap (λ (x : List Row). look x b j) (w .rows) ∙ switched-elsewhere a i on (c .names a i) l (goes l c a i on) b j h in
+    let k = kept-few (fell a i l′) a l (all-here a i l l′ l e (all-found l (s .order))) in
+    omega (arith, k, s .each a)
