@@ -10,16 +10,18 @@ use Rattle.std.specs.shelf.Lists.{All}
 use Rattle.std.specs.shelf.Text.{sameBytes}
 use Rattle.std.specs.declared.option.Option.{Option}
 use Rattle.std.specs.declared.option.Option.the-variants.{Some, None}
-use Rattle.std.proofs.shelf.Tests.{and-parts, both-ways, eqb-true, eq-eqb, not-true}
+use Rattle.std.proofs.shelf.Tests.{and-parts, both-ways, eqb-true, eq-eqb, not-true, cond-false}
 use Rattle.rising.specs.Order.{Before, same-key}
 use Rattle.rising.specs.Lists.{leads, rising, Rising}
 use Rattle.rising.proofs.Order.{differs-below, same-refl}
 use Rattle.message.specs.Rows.{row-key, keep}
+use Rattle.message.specs.Writing.{Put, Left}
+use Rattle.message.proofs.Places.{put-by, written-none, as-bytes, left-none, left-more, left-all, left-as}
 use Rattle.message.specs.declared.row.Row.{Row}
 use Rattle.host.specs.Rows.{row, same, look, is-on, tally, Sound}
 use Rattle.host.specs.Hosts.{Consents, goes, turned, Switched}
 use Rattle.host.proofs.Keys.{key-same}
-use Rattle.responder.specs.Steps.{put-off}
+use Rattle.responder.specs.Steps.{fell, put-off, fall-there, reports, reports-bytes, bytes}
 
 -- every row of a rising list is the one that its address and ID find
 abbrev Found : List Row → Row → Type 0
@@ -73,9 +75,6 @@ kept-few p a (r ∷ l) h = go (p r) (eqb a (r .address)) (h .0) (kept-few p a l 
     go false true f k = omega arith
     go false false f k = omega arith
 
-abbrev fell : ℕ → List ℕ → List Row → Row → Bool
-fell a i l′ r = r .on && (not (same a i r) && not (is-on (look l′ (r .address) (r .id))))
-
 fell-here : (a : ℕ) (i : List ℕ) (l l′ : List Row) (r : Row) → ((b : ℕ) (j : List ℕ) → eqb a b ≡ false → look l′ b j ≡ look l b j) → Found l r
     → fell a i l′ r ≡ true → eqb a (r .address) ≡ true
 fell-here a i l l′ r e f t = go (eqb a (r .address)) refl
@@ -102,3 +101,10 @@ put-off-few l c f a i on l′ c′ f′ answer s w =
     λ b j h. ap (λ (x : List Row). look x b j) (w .rows) ∙ switched-elsewhere a i on (c .names a i) l (goes l c a i on) b j h in
     let k = kept-few (fell a i l′) a l (all-here a i l l′ l e (all-found l (s .order))) in
     omega (arith, k, s .each a)
+
+-- a row that did not fall gets no report
+pub none-fell : (own a : ℕ) (i : List ℕ) (l′ : List Row) (r : Row) (before : List ℕ) (at : ℕ) → fell a i l′ r ≡ false → at + length (fall-there own a i l′ r) ≤ length before
+    → Put before at (fall-there own a i l′ r) at before
+none-fell own a i l′ r before at h room =
+    let e : fall-there own a i l′ r ≡ [] = cond-false _ _ _ h in
+    as-bytes (sym e) (put-by (omega (arith, room, ap length e)) (omega arith) (sym (written-none before at)))

@@ -55,13 +55,25 @@ pub record Sends (bs before : List ℕ) (r : Result ℕ Refusal) (after : List �
   pub says : outcome r after ≡ sent bs
   pub rest : Rest r before after
 
+-- a row that stood on, is not the named one, and stands off in the listing after
+abbrev pub fell : ℕ → List ℕ → List Row → Row → Bool
+fell a i l′ r = r .on && (not (same a i r) && not (is-on (look l′ (r .address) (r .id))))
+
 -- the other rows that stood on before and stand off after
 abbrev pub put-off : ℕ → List ℕ → List Row → List Row → List Row
-put-off a i l l′ = keep (λ r. r .on && (not (same a i r) && not (is-on (look l′ (r .address) (r .id))))) l
+put-off a i l l′ = keep (fell a i l′) l
+
+-- the Disabled Report of a row that fell, and nothing for another
+abbrev pub fall-there : (own a : ℕ) → List ℕ → List Row → Row → List ℕ
+fall-there own a i l′ r = cond (fell a i l′ r) (encode (report own (r .address) (r .id) false)) []
 
 -- their Disabled Reports, and last the report of the named row's state as it is then
 abbrev pub reports : ℕ → ℕ → List ℕ → List Row → List Row → List Fields
 reports own a i offs l′ = map (λ r. report own (r .address) (r .id) false) offs ++ report own a i (is-on (look l′ a i)) ∷ []
+
+-- the bytes of these reports, where the other rows stand in the listing's order
+unfoldable pub reports-bytes : (own a : ℕ) → List ℕ → List Row → List Row → List ℕ
+reports-bytes own a i l l′ = bytes (reports own a i (put-off a i l l′) l′)
 
 module _ {S : Type 0} (listing : S → List Row) (consents : S → Consents) (fixed : S → Bool) (keeps : S → S → Type 0) where
   -- the host is asked to switch; each other row put off is reported once, in any order, before the named row

@@ -4,6 +4,7 @@ mod calls;
 mod deciding;
 mod listing;
 pub mod responder;
+mod reporting;
 mod sending;
 
 pub use responder::Responder;
