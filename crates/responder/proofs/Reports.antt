@@ -2,10 +2,11 @@
 use mathlib.Core.Path.{_≡_, refl, sym, ap, subst, _∙_}
 use mathlib.Core.List.{List, [], _∷_, _++_, map}
 use mathlib.Core.Bool.{Bool, true, false, not, _&&_, _||_, cond}
-use Prim.Native.Nat.{ℕ, suc, _+_, _*_, _≤_, _<_}
+use Prim.Native.Nat.{ℕ, zero, suc, _+_, _*_, _≤_, _<_}
 use native.Mathlib.Omega.{arith}
 use lib.Dec.{eqb}
-use lib.ListN.{length}
+use lib.ListN.{length, getD, drop}
+use Rattle.std.proofs.shelf.Lists.{length-append, append-assoc, append-nil, at-drop-more}
 use Rattle.std.specs.shelf.Lists.{All}
 use Rattle.std.specs.shelf.Text.{sameBytes}
 use Rattle.std.specs.declared.option.Option.{Option}
@@ -14,14 +15,19 @@ use Rattle.std.proofs.shelf.Tests.{and-parts, both-ways, eqb-true, eq-eqb, not-
 use Rattle.rising.specs.Order.{Before, same-key}
 use Rattle.rising.specs.Lists.{leads, rising, Rising}
 use Rattle.rising.proofs.Order.{differs-below, same-refl}
-use Rattle.message.specs.Rows.{row-key, keep}
+use Rattle.message.specs.Messages.{Fields, encode}
+use Rattle.message.specs.Sending.{channels, report}
+use Rattle.message.proofs.Encoding.{length-encode}
+use Rattle.message.proofs.Parts.{no-row}
+use Rattle.message.proofs.Trips.{Fives, fives-kept}
+use Rattle.message.specs.Rows.{row-key, keep, ranged, all-ranged}
 use Rattle.message.specs.Writing.{Put, Left}
 use Rattle.message.proofs.Places.{put-by, written-none, as-bytes, left-none, left-more, left-all, left-as}
 use Rattle.message.specs.declared.row.Row.{Row}
 use Rattle.host.specs.Rows.{row, same, look, is-on, tally, Sound}
 use Rattle.host.specs.Hosts.{Consents, goes, turned, Switched}
 use Rattle.host.proofs.Keys.{key-same}
-use Rattle.responder.specs.Steps.{fell, put-off, fall-there, reports, reports-bytes, bytes}
+use Rattle.responder.specs.Steps.{fell, put-off, fall-there, falls, reports, reports-bytes, bytes}
 
 -- every row of a rising list is the one that its address and ID find
 abbrev Found : List Row → Row → Type 0
@@ -108,3 +114,49 @@ pub none-fell : (own a : ℕ) (i : List ℕ) (l′ : List Row) (r : Row) (before
 none-fell own a i l′ r before at h room =
     let e : fall-there own a i l′ r ≡ [] = cond-false _ _ _ h in
     as-bytes (sym e) (put-by (omega (arith, room, ap length e)) (omega arith) (sym (written-none before at)))
+
+-- one more row
+pub falls-more : (own a : ℕ) (i : List ℕ) (l′ l : List Row) (k : ℕ) → k < length l
+    → falls own a i l′ (drop k l) ≡ fall-there own a i l′ (getD l k no-row) ++ falls own a i l′ (drop (k + 1) l)
+falls-more own a i l′ l k h = at-drop-more (falls own a i l′) l k no-row h
+
+-- the reports one after the other are those of the rows that fell
+falls-kept : (own a : ℕ) (i : List ℕ) (l′ l : List Row) → falls own a i l′ l ≡ bytes (map (λ r. report own (r .address) (r .id) false) (keep (fell a i l′) l))
+falls-kept own a i l′ [] = refl
+falls-kept own a i l′ (r ∷ l) = go (fell a i l′ r) (falls-kept own a i l′ l)
+  where
+    go : (b : Bool) → falls own a i l′ l ≡ bytes (map (λ r. report own (r .address) (r .id) false) (keep (fell a i l′) l))
+        → cond b (encode (report own (r .address) (r .id) false)) [] ++ falls own a i l′ l
+        ≡ bytes (map (λ r. report own (r .address) (r .id) false) (cond b (r ∷ keep (fell a i l′) l) (keep (fell a i l′) l)))
+    go true h = ap (λ (xs : List ℕ). encode (report own (r .address) (r .id) false) ++ xs) h
+    go false h = h
+
+length-report : (own a : ℕ) (i : List ℕ) (on : Bool) → length i ≡ 5 → length (encode (report own a i on)) ≡ 22
+length-report own a i on h = omega (arith, length-encode (report own a i on), length-append i (channels a))
+
+falls-long : (own : ℕ) (xs : List Row) → Fives xs → length (bytes (map (λ r. report own (r .address) (r .id) false) xs)) ≡ 22 * length xs
+falls-long own [] f = refl
+falls-long own (r ∷ xs) (h, s, f) =
+    omega (arith, length-append (encode (report own (r .address) (r .id) false)) (bytes (map (λ r. report own (r .address) (r .id) false) xs)), length-report own (r .address) (r .id) false h, falls-long own xs f)
+
+pub falls-fit : (own a : ℕ) (i : List ℕ) (l′ l : List Row) → all-ranged l ≡ true → length (put-off a i l l′) ≤ 21 → length (falls own a i l′ l) ≤ 462
+falls-fit own a i l′ l v few = omega (arith, ap length (falls-kept own a i l′ l), falls-long own (put-off a i l l′) (fives-kept (fell a i l′) l v))
+
+-- all reports of a switch
+bytes-last : (ms : List Fields) (m : Fields) → bytes (ms ++ m ∷ []) ≡ bytes ms ++ encode m
+bytes-last [] m = append-nil (encode m)
+bytes-last (n ∷ ms) m = ap (λ (xs : List ℕ). encode n ++ xs) (bytes-last ms m) ∙ sym (append-assoc (encode n) (bytes ms) (encode m))
+
+pub reports-end : (own a : ℕ) (i : List ℕ) (l l′ : List Row) (on : Bool) → on ≡ is-on (look l′ a i)
+    → falls own a i l′ l ++ encode (report own a i on) ≡ reports-bytes own a i l l′
+unfolding reports-bytes
+reports-end own a i l l′ on e =
+    ap (λ (xs : List ℕ). xs ++ encode (report own a i on)) (falls-kept own a i l′ l)
+    ∙ ap (λ (b : Bool). bytes (map (λ r. report own (r .address) (r .id) false) (put-off a i l l′)) ++ encode (report own a i b)) e
+    ∙ sym (bytes-last (map (λ r. report own (r .address) (r .id) false) (put-off a i l l′)) (report own a i (is-on (look l′ a i))))
+
+-- a row of a list in range is in range
+pub ranged-getD : (l : List Row) (k : ℕ) → all-ranged l ≡ true → k < length l → ranged (getD l k no-row .address) (getD l k no-row .id) ≡ true
+ranged-getD [] k v h = absurd (omega arith)
+ranged-getD (r ∷ l) zero v h = and-parts _ _ v .0
+ranged-getD (r ∷ l) (suc k) v h = ranged-getD l k (and-parts _ _ v .1) (omega arith)

@@ -67,6 +67,10 @@ put-off a i l l′ = keep (fell a i l′) l
 abbrev pub fall-there : (own a : ℕ) → List ℕ → List Row → Row → List ℕ
 fall-there own a i l′ r = cond (fell a i l′ r) (encode (report own (r .address) (r .id) false)) []
 
+-- those of all rows, one after the other
+abbrev pub falls : (own a : ℕ) → List ℕ → List Row → List Row → List ℕ
+falls own a i l′ l = joined (fall-there own a i l′) l
+
 -- their Disabled Reports, and last the report of the named row's state as it is then
 abbrev pub reports : ℕ → ℕ → List ℕ → List Row → List Row → List Fields
 reports own a i offs l′ = map (λ r. report own (r .address) (r .id) false) offs ++ report own a i (is-on (look l′ a i)) ∷ []

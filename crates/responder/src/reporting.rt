@@ -1,17 +1,17 @@
 //! Reports of a switch.
 ghost use mathlib.Core.Path.{_≡_};
 ghost use mathlib.Core.Bool.{true};
-ghost use mathlib.Core.List.{List, map};
+ghost use mathlib.Core.List.{List};
 ghost use Prim.Native.Nat.{ℕ, _+_, _≤_};
 ghost use lib.ListN.{length};
 ghost use Rattle.rising.specs.Lists.{Rising};
 ghost use Rattle.std.specs.shelf.Text.{sameBytes};
 ghost use Rattle.host.specs.Rows.{is-on, look, same, Sound};
 ghost use Rattle.message.specs.Messages.{encode};
-ghost use Rattle.message.specs.Rows.{ranged, row-key};
-ghost use Rattle.message.specs.Sending.{meant, report};
+ghost use Rattle.message.specs.Rows.{all-ranged, ranged, row-key};
+ghost use Rattle.message.specs.Sending.{meant};
 ghost use Rattle.message.specs.Writing.{Put};
-ghost use Rattle.responder.specs.Steps.{bytes, fall-there, fell, put-off, reports-bytes};
+ghost use Rattle.responder.specs.Steps.{fall-there, falls, fell, put-off, reports-bytes};
 use host::find_row;
 use message::Address;
 use message::Muid;
@@ -88,5 +88,47 @@ fn put_if_fallen(
     let Some(id) = ProfileId::new(row.id) else {
         return at;
     };
+    put_sent(Sent::Disabled { address, id }, own, answer, at)
+}
+
+/// Puts a Disabled Report for each row that has fallen, in the listing's order.
+fn put_fallen(
+    before: &[Row],
+    rows: &[Row],
+    named: (Address, ProfileId),
+    own: Muid,
+    answer: &mut [u8],
+) -> usize
+    requires up { ⌜ Rising row-key (now rows) ⌝ }
+    requires ranges { ⌜ all-ranged (now before) ≡ true ⌝ }
+    requires room { ⌜ length (falls (own .number) (named .0 .byte) (named .1 .bytes) (now rows) (now before)) ≤ length (now answer) ⌝ }
+    ensures { λ r. ⌜ Put (now (answer .entry)) 0 (falls (own .number) (named .0 .byte) (named .1 .bytes) (now (rows .entry)) (now (before .entry))) r (now (answer .exit)) ⌝ }
+{
+    let mut at = 0;
+    for k in 0..before.len() {
+        at = put_if_fallen(before[k], rows, named, own, answer, at);
+    }
+    at
+}
+
+/// Puts the Disabled Reports of the rows that have fallen, and last the report of the named row as it is now.
+pub(crate) fn write_reports(
+    before: &[Row],
+    rows: &[Row],
+    named: (Address, ProfileId),
+    own: Muid,
+    answer: &mut [u8],
+) -> usize
+    requires before { ⌜ Sound (now before) ⌝ }
+    requires sound { ⌜ Sound (now rows) ⌝ }
+    requires few { ⌜ length (put-off (named .0 .byte) (named .1 .bytes) (now before) (now rows)) ≤ 21 ⌝ }
+    requires room { ⌜ 1024 ≤ length (now answer) ⌝ }
+    ensures { λ r. ⌜ Put (now (answer .entry)) 0 (reports-bytes (own .number) (named .0 .byte) (named .1 .bytes) (now (before .entry)) (now (rows .entry))) r (now (answer .exit)) ⌝ }
+{
+    let at = put_fallen(before, rows, named, own, answer);
+    let (address, id) = named;
+    if is_on(rows, address.byte, id.bytes) {
+        return put_sent(Sent::Enabled { address, id }, own, answer, at);
+    }
     put_sent(Sent::Disabled { address, id }, own, answer, at)
 }
