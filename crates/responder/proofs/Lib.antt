@@ -4,3 +4,4 @@ pub mod Opening
 pub mod Sendings
 pub mod Replies
 pub mod Reports
+pub mod Switches

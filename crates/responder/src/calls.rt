@@ -1,17 +1,22 @@
 //! The calls of a responder.
 ghost use mathlib.Core.Path.{_≡_};
 ghost use mathlib.Core.List.{[]};
-ghost use Prim.Native.Nat.{ℕ, _%_};
+ghost use Prim.Native.Nat.{ℕ, _%_, _≤_};
 ghost use lib.ListN.{length};
+ghost use Rattle.std.specs.declared.result.Result.the-variants.{Ok};
 ghost use Rattle.numbers.specs.Model.{own-of, listed-of};
 ghost use Rattle.responder.specs.Models.{state-of};
 ghost use Rattle.responder.specs.Plans.{announcing};
-ghost use Rattle.responder.specs.Steps.{outcome, Done, Rest};
+ghost use Rattle.responder.specs.Steps.{outcome, Done, Rest, Turned};
+use crate::reporting::copy_rows;
+use crate::reporting::write_reports;
 use crate::responder::Responder;
 use crate::sending::write_one;
 use host::Host;
+use message::Address;
 use message::Identity;
 use message::Muid;
+use message::ProfileId;
 use message::Refusal;
 use message::Sent;
 use numbers::Numbers;
@@ -51,5 +56,26 @@ impl<P: Host> Responder<P> {
         }
         let identity = self.identity;
         write_one(Sent::Discovery { identity }, self.own(), answer)
+    }
+
+    /// Asks the host to switch a row, and writes the reports of what follows.
+    fn switch(&mut self, address: Address, id: ProfileId, on: bool, answer: &mut [u8]) -> usize
+        requires { ⌜ 1024 ≤ length (now answer) ⌝ }
+        ensures does { λ r. ⌜ Turned (P·Host .listing) (P·Host .consents) (P·Host .fixed) (P·Host .keeps) (address .byte) (id .bytes) on (state-of (now (self .entry))) (outcome (Ok r) (now (answer .exit))) (state-of (now (self .exit))) ⌝ }
+        ensures rest { λ r. ⌜ Rest (Ok r) (now (answer .entry)) (now (answer .exit)) ⌝ }
+        ensures same { λ _. ⌜ now (self .exit) .identity ≡ now (self .entry) .identity ⌝ }
+    {
+        let own = self.own();
+        let rows = self.host.rows();
+        let count = rows.len();
+        let before = copy_rows(rows);
+        let _ = self.host.switch(address.byte, id.bytes, on);
+        write_reports(
+            &before[0..count],
+            self.host.rows(),
+            (address, id),
+            own,
+            answer,
+        )
     }
 }

@@ -3,8 +3,8 @@ mod action;
 mod calls;
 mod deciding;
 mod listing;
-pub mod responder;
 mod reporting;
+pub mod responder;
 mod sending;
 
 pub use responder::Responder;

@@ -3,7 +3,7 @@ ghost use mathlib.Core.Path.{_≡_};
 ghost use mathlib.Core.Bool.{true};
 ghost use mathlib.Core.List.{List};
 ghost use Prim.Native.Nat.{ℕ, _+_, _≤_};
-ghost use lib.ListN.{length};
+ghost use lib.ListN.{length, take};
 ghost use Rattle.rising.specs.Lists.{Rising};
 ghost use Rattle.std.specs.shelf.Text.{sameBytes};
 ghost use Rattle.host.specs.Rows.{is-on, look, same, Sound};
@@ -131,4 +131,19 @@ pub(crate) fn write_reports(
         return put_sent(Sent::Enabled { address, id }, own, answer, at);
     }
     put_sent(Sent::Disabled { address, id }, own, answer, at)
+}
+
+/// A copy of a listing's rows, and of nothing past them.
+pub(crate) fn copy_rows(rows: &[Row]) -> [Row; 64]
+    requires { ⌜ length (now rows) ≤ 64 ⌝ }
+    ensures { λ r. ⌜ take (length (now (rows .entry))) r ≡ now (rows .entry) ⌝ }
+{
+    let blank = Row {
+        address: 0,
+        id: [0; 5],
+        on: false,
+    };
+    let mut copy = [blank; 64];
+    copy[0..rows.len()].copy_from_slice(rows);
+    copy
 }
