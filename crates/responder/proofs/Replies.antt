@@ -19,7 +19,9 @@ use Rattle.host.specs.Rows.{tally, Sound}
 use Rattle.responder.specs.Plans.{has-row, having-row, replied-at, upto}
 use Rattle.message.specs.Writing.{Put, Left}
 use Rattle.message.proofs.Places.{left-more, left-all, as-bytes, put-by, written-none}
-use Rattle.responder.specs.Steps.{bytes, reply-there, lists-bytes}
+use Rattle.std.specs.declared.result.Result.the-variants.{Ok}
+use Rattle.responder.specs.Steps.{bytes, reply-there, lists-bytes, Sends}
+use Rattle.responder.proofs.Sendings.{put-sends}
 
 -- each row at an address is on or off
 halves : (a : ℕ) (l : List Row) → length (part a true l) + length (part a false l) ≡ tally a l
@@ -218,3 +220,11 @@ none-there own to l a before at h room =
 pub reply-put : (own to : ℕ) (l : List Row) (a : ℕ) (before : List ℕ) (at end : ℕ) (after : List ℕ) → eqb a 0x7F ≡ false
     → Put before at (encode (profile-list own to a l)) end after → Put before at (lists-bytes own to l a) end after
 reply-put own to l a before at end after h p = as-bytes (one-list own to l a h) p
+
+-- the bytes of the replies are sent
+pub lists-sent : (own own′ to a : ℕ) (rs l : List Row) (before after : List ℕ) (end : ℕ) → own′ ≡ own → rs ≡ l
+    → Put before 0 (lists-bytes own′ to rs a) end after → Sends (bytes (map (λ b. profile-list own to b l) (replied-at l a))) before (Ok end) after
+unfolding lists-bytes
+lists-sent own own′ to a rs l before after end p q w =
+    let e : lists-bytes own′ to rs a ≡ bytes (map (λ b. profile-list own to b l) (replied-at l a)) = rw (p, q) in
+    subst (λ (x : List ℕ). Sends x before (Ok end) after) e (put-sends (lists-bytes own′ to rs a) before after end w)

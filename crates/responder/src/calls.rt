@@ -5,12 +5,17 @@ ghost use Prim.Native.Nat.{ℕ, _%_, _≤_};
 ghost use lib.ListN.{length};
 ghost use Rattle.std.specs.declared.result.Result.the-variants.{Ok};
 ghost use Rattle.numbers.specs.Model.{own-of, listed-of};
+ghost use Rattle.responder.specs.Actions.{action-plan};
 ghost use Rattle.responder.specs.Models.{state-of};
-ghost use Rattle.responder.specs.Plans.{announcing};
+ghost use Rattle.responder.specs.Plans.{announcing, taking};
 ghost use Rattle.responder.specs.Steps.{outcome, Done, Rest, Turned};
+use crate::action::Action;
+use crate::deciding::decide;
+use crate::listing::write_lists;
 use crate::reporting::copy_rows;
 use crate::reporting::write_reports;
 use crate::responder::Responder;
+use crate::sending::write_new_number;
 use crate::sending::write_one;
 use host::Host;
 use message::Address;
@@ -77,5 +82,80 @@ impl<P: Host> Responder<P> {
             own,
             answer,
         )
+    }
+
+    /// Does what was decided.
+    fn act(&mut self, action: Action, draw: u32, answer: &mut [u8]) -> Result<usize, Refusal>
+        requires { ⌜ 1024 ≤ length (now answer) ⌝ }
+        ensures does { λ r. ⌜ Done (P·Host .listing) (P·Host .consents) (P·Host .fixed) (P·Host .keeps) (action-plan (now (self .entry) .identity) (own-of (now (self .entry) .numbers)) (listed-of (now (self .entry) .numbers)) (P·Host .listing (now (self .entry) .host)) draw action) (state-of (now (self .entry))) (outcome r (now (answer .exit))) (state-of (now (self .exit))) ⌝ }
+        ensures rest { λ r. ⌜ Rest r (now (answer .entry)) (now (answer .exit)) ⌝ }
+        ensures same { λ _. ⌜ now (self .exit) .identity ≡ now (self .entry) .identity ⌝ }
+    {
+        let own = self.own();
+        let identity = self.identity;
+        match action {
+            Action::GiveUpNumber => {
+                self.numbers.renew(draw);
+                write_new_number(identity, own, self.own(), answer)
+            }
+            Action::ChooseNumber => {
+                self.numbers.renew(draw);
+                write_one(Sent::Discovery { identity }, self.own(), answer)
+            }
+            Action::Note(number) => {
+                self.numbers.note(number);
+                Ok(0)
+            }
+            Action::Forget(number) => {
+                self.numbers.forget(number);
+                Ok(0)
+            }
+            Action::Nothing => Ok(0),
+            Action::Deny {
+                to,
+                address,
+                sub_id,
+                status,
+            } => write_one(
+                Sent::Nak {
+                    to,
+                    address,
+                    sub_id,
+                    status,
+                },
+                own,
+                answer,
+            ),
+            Action::Discovered { from, path } => {
+                self.numbers.note(from.number);
+                write_one(
+                    Sent::DiscoveryReply {
+                        to: from,
+                        identity,
+                        path,
+                    },
+                    own,
+                    answer,
+                )
+            }
+            Action::List { to, address } => {
+                Ok(write_lists(self.host.rows(), address, own, to, answer))
+            }
+            Action::Switch { address, id, on } => Ok(self.switch(address, id, on, answer)),
+        }
+    }
+
+    /// Takes a message that came, and writes the answer to it, if it gets one.
+    pub fn take(&mut self, message: &[u8], draw: u32, answer: &mut [u8]) -> Result<usize, Refusal>
+        ensures does { λ r. ⌜ Done (P·Host .listing) (P·Host .consents) (P·Host .fixed) (P·Host .keeps) (taking (now (self .entry) .identity) (own-of (now (self .entry) .numbers)) (listed-of (now (self .entry) .numbers)) (P·Host .listing (now (self .entry) .host)) (length (now (answer .entry))) (now (message .entry)) draw) (state-of (now (self .entry))) (outcome r (now (answer .exit))) (state-of (now (self .exit))) ⌝ }
+        ensures rest { λ r. ⌜ Rest r (now (answer .entry)) (now (answer .exit)) ⌝ }
+        ensures same { λ _. ⌜ now (self .exit) .identity ≡ now (self .entry) .identity ⌝ }
+    {
+        if answer.len() < ROOM {
+            return Err(Refusal::BufferTooSmall);
+        }
+        let own = self.own();
+        let action = decide(self.host.rows(), own.number, message)?;
+        self.act(action, draw, answer)
     }
 }
