@@ -1,8 +1,8 @@
 -- The keyboard keeps the rules of hosts. Its ghost member `lawful` cites this.
-use mathlib.Core.Path.{_≡_, refl, sym, _∙_}
-use mathlib.Core.List.{List, []}
+use mathlib.Core.Path.{_≡_, refl}
+use mathlib.Core.List.{List}
 use mathlib.Core.Bool.{Bool, true, false, not, _&&_, cond}
-use Prim.Native.Nat.{ℕ, _+_, _≤_}
+use Prim.Native.Nat.{ℕ, _≤_}
 use native.Mathlib.Omega.{arith}
 use lib.Dec.{eqb}
 use Rattle.std.specs.Options.{isSome}
@@ -11,7 +11,7 @@ use Rattle.std.specs.declared.option.Option.{Option}
 use Rattle.std.specs.declared.option.Option.the-variants.{Some, None}
 use Rattle.std.proofs.shelf.Equals.{sameBytes-decides}
 use Rattle.std.proofs.shelf.Tests.{and-parts, eqb-true, not-true, cond-both, both-ways}
-use Rattle.host.specs.Rows.{has, tally, Sound as Listing}
+use Rattle.host.specs.Rows.{has, Sound as Listing}
 use Rattle.host.specs.Hosts.{Lawful}
 use Rattle.example_host.specs.declared.keyboard.Sound.{Sound}
 use Rattle.example_host.specs.declared.keyboard.Sound.the-variants.{Piano, Organ}

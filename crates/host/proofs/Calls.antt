@@ -1,10 +1,8 @@
 -- What a call means that changes nothing, and what the calls of a table mean.
-use mathlib.Core.Path.{_≡_, refl, sym, ap, subst, _∙_}
-use mathlib.Core.List.{List, [], _∷_, map}
-use mathlib.Core.Bool.{Bool, true, false, not, cond, _&&_}
-use mathlib.Core.Logic.{_⊎_, ⊎-elim}
+use mathlib.Core.Path.{_≡_, refl, sym, ap, _∙_}
+use mathlib.Core.List.{List, map}
+use mathlib.Core.Bool.{Bool, true, false, _&&_}
 use Prim.Native.Nat.{ℕ}
-use lib.Dec.{eqb}
 use Rattle.std.specs.declared.option.Option.{Option}
 use Rattle.std.specs.declared.option.Option.the-variants.{Some, None}
 use Rattle.std.proofs.shelf.Tests.{both-ways}
@@ -12,11 +10,11 @@ use Rattle.rising.specs.Lists.{entered}
 use Rattle.message.specs.Rows.{row-key}
 use Rattle.message.specs.declared.row.Row.{Row}
 use Rattle.host.specs.Rows.{row, look, has, is-there, without-row}
-use Rattle.host.specs.Hosts.{Consents, permits, differs, goes, turned, plugs, pulls, Kept, Switched, Plugged, Pulled}
-use Rattle.host.specs.Tables.{freely, never}
+use Rattle.host.specs.Hosts.{Consents, differs, goes, turned, plugs, pulls, Switched, Plugged, Pulled}
+use Rattle.host.specs.Tables.{freely}
 use Rattle.host.proofs.Keeping.{has-map}
 
--- any host
+-- any host: what a host of a maker's own may cite too
 
 pub switch-stays : (l : List Row) (c : Consents) (f : Bool) (a : ℕ) (i : List ℕ) (on : Bool) → goes l c a i on ≡ false → Switched l c f a i on l c f false
 switch-stays l c f a i on h = record { told = sym h; rows = rw h; still = λ _. refl; fixed = refl; kept = λ t. absurd (both-ways _ h t) }
@@ -66,9 +64,3 @@ module _ (l : List Row) (a : ℕ) (i : List ℕ) (answer : Bool) (told : answer 
 
   pub table-loses : (l′ : List Row) → answer ≡ true → l′ ≡ without-row a i l → Pulled l (freely l) false a i l′ (freely l′) false answer
   table-loses l′ y e = rw y (pull-removes l l′ (freely l) (freely l′) false a i (sym told ∙ y) e)
-
--- the fixed host
-
-pub goes-never : (l : List Row) (a : ℕ) (i : List ℕ) (on : Bool) → goes l never a i on ≡ false
-goes-never l a i true = refl
-goes-never l a i false = refl

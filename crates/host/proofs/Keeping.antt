@@ -8,7 +8,7 @@ use native.Mathlib.Omega.{arith}
 use lib.Dec.{eqb, ltb}
 use lib.ListN.{length, getD, set, take}
 use Rattle.std.specs.declared.option.Option.{Option}
-use Rattle.std.specs.declared.option.Option.the-variants.{Some, None}
+use Rattle.std.specs.declared.option.Option.the-variants.{Some}
 use Rattle.std.proofs.shelf.Lists.{length-map, length-take, getD-take}
 use Rattle.std.proofs.shelf.Tests.{and-parts, and-from, eqb-true, ltb-true, both-ways, cases-bool, cond-both, cond-false, cond-below}
 use Rattle.rising.specs.Order.{before, Before}

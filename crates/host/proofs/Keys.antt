@@ -1,7 +1,7 @@
 -- Rows by address and ID, and by their key, are the same rows.
 use mathlib.Core.Path.{_≡_, refl, sym, ap, subst, _∙_}
 use mathlib.Core.List.{List, [], _∷_}
-use mathlib.Core.Bool.{Bool, true, false, not, cond, _&&_, _||_}
+use mathlib.Core.Bool.{Bool, true, false, not, cond, _||_}
 use mathlib.Core.Logic.{_⊎_, ⊎-elim}
 use Prim.Native.Nat.{ℕ}
 use lib.Dec.{eqb}
@@ -15,7 +15,7 @@ use Rattle.std.proofs.shelf.Equals.{sameBytes-decides}
 use Rattle.rising.specs.Order.{same-key}
 use Rattle.rising.specs.Lists.{Rising, Stands, Absent, holds, found, without}
 use Rattle.rising.proofs.Order.{same-eq, same-from}
-use Rattle.message.specs.Rows.{row-key, keep}
+use Rattle.message.specs.Rows.{row-key}
 use Rattle.message.specs.declared.row.Row.{Row}
 use Rattle.host.specs.Rows.{row, same, look, has, is-there, without-row}
 use Rattle.host.specs.Tables.{Placed}

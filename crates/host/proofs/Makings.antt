@@ -1,9 +1,9 @@
 -- Nothing is said exactly of listings.
-use mathlib.Core.Path.{_≡_, refl, ap, subst, _∙_}
+use mathlib.Core.Path.{_≡_, refl, ap}
 use mathlib.Core.List.{List, [], _∷_}
 use mathlib.Core.Bool.{Bool, true, false, not, _||_, cond}
 use mathlib.Core.Logic.{_⊎_, ⊎-elim}
-use Prim.Native.Nat.{ℕ, _+_, _<_, _≤_}
+use Prim.Native.Nat.{ℕ, _<_, _≤_}
 use native.Mathlib.Omega.{arith}
 use lib.Dec.{eqb, ltb}
 use lib.ListN.{length}
@@ -16,7 +16,7 @@ use Rattle.message.specs.declared.row.Row.{Row}
 use Rattle.message.specs.declared.refusal.Refusal.{Refusal}
 use Rattle.message.specs.declared.refusal.Refusal.the-variants.{FieldOutOfRange, NotRising}
 use Rattle.host.specs.Rows.{any, tally, Sound}
-use Rattle.host.specs.Making.{crowded, disordered, fault, Exact}
+use Rattle.host.specs.Making.{crowded, disordered, Exact}
 
 -- an address at which a row stands is looked at
 within : (m l : List Row) (a : ℕ) → any (λ r. ltb 21 (tally (r .address) m)) l ≡ false → 0 < tally a l → tally a m ≤ 21

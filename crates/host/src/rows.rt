@@ -146,7 +146,7 @@ fn fits_in(rows: &[Row], address: u8, id: [u8; 5]) -> bool
 
 impl Rows {
     /// No rows.
-    pub fn none() -> Rows
+    pub(crate) fn none() -> Rows
         ensures none { λ r. ⌜ r .count ≡ 0 ⌝ }
         ensures whole { λ r. ⌜ length (r .slots) ≡ 64 ⌝ }
     {
@@ -157,7 +157,7 @@ impl Rows {
     }
 
     /// The given rows, if a host can be made from them.
-    pub fn from_slice(rows: &[Row]) -> Result<Rows, Refusal>
+    pub(crate) fn from_slice(rows: &[Row]) -> Result<Rows, Refusal>
         ensures { λ r. ⌜ ByOk r (λ t. (fault (now (rows .entry)) ≡ None) × (listed t ≡ now (rows .entry)) × (t .count ≤ 64) × (length (t .slots) ≡ 64)) (λ e. fault (now (rows .entry)) ≡ Some e) ⌝ }
     {
         match fault_of(rows) {
@@ -174,7 +174,7 @@ impl Rows {
     }
 
     /// The rows in use.
-    pub fn listed(&self) -> &[Row]
+    pub(crate) fn listed(&self) -> &[Row]
         requires within { ⌜ now self .count ≤ 64 ⌝ }
         requires whole { ⌜ length (now self .slots) ≡ 64 ⌝ }
         ensures { λ r. ⌜ now r ≡ listed (now (self .entry)) ⌝ }
@@ -183,7 +183,7 @@ impl Rows {
     }
 
     /// The place of a row.
-    pub fn place(&self, address: u8, id: [u8; 5]) -> Option<usize>
+    pub(crate) fn place(&self, address: u8, id: [u8; 5]) -> Option<usize>
         requires within { ⌜ now self .count ≤ 64 ⌝ }
         requires whole { ⌜ length (now self .slots) ≡ 64 ⌝ }
         requires order { ⌜ Rising row-key (listed (now self)) ⌝ }
@@ -194,7 +194,7 @@ impl Rows {
     }
 
     /// Whether a row may enter.
-    pub fn takes(&self, address: u8, id: [u8; 5]) -> bool
+    pub(crate) fn takes(&self, address: u8, id: [u8; 5]) -> bool
         requires within { ⌜ now self .count ≤ 64 ⌝ }
         requires whole { ⌜ length (now self .slots) ≡ 64 ⌝ }
         requires order { ⌜ Rising row-key (listed (now self)) ⌝ }
@@ -204,7 +204,7 @@ impl Rows {
     }
 
     /// Puts the row at a place on or off.
-    pub fn turn(&mut self, k: usize, on: bool)
+    pub(crate) fn turn(&mut self, k: usize, on: bool)
         requires { ⌜ k < 64 ⌝ }
         ensures slots { λ _. ⌜ now (self .exit) .slots ≡ put (now (self .entry) .slots) k on ⌝ }
         ensures count { λ _. ⌜ now (self .exit) .count ≡ now (self .entry) .count ⌝ }
@@ -214,7 +214,7 @@ impl Rows {
     }
 
     /// Enters a row as off, at its place.
-    pub fn enter(&mut self, address: u8, id: [u8; 5])
+    pub(crate) fn enter(&mut self, address: u8, id: [u8; 5])
         requires within { ⌜ now self .count ≤ 64 ⌝ }
         requires whole { ⌜ length (now self .slots) ≡ 64 ⌝ }
         requires order { ⌜ Rising row-key (listed (now self)) ⌝ }
@@ -226,7 +226,7 @@ impl Rows {
     }
 
     /// Removes a row.
-    pub fn remove(&mut self, address: u8, id: [u8; 5])
+    pub(crate) fn remove(&mut self, address: u8, id: [u8; 5])
         requires within { ⌜ now self .count ≤ 64 ⌝ }
         requires whole { ⌜ length (now self .slots) ≡ 64 ⌝ }
         requires order { ⌜ Rising row-key (listed (now self)) ⌝ }

@@ -1,4 +1,4 @@
-use mathlib.Core.Path.{_≡_, sym, subst}
+use mathlib.Core.Path.{sym, subst}
 use Rattle.std.proofs.shelf.Results.{err-from-errBy}
 use Rattle.host.specs.Rows.{Sound}
 use Rattle.host.specs.Tables.{listed}

@@ -1,4 +1,4 @@
-use mathlib.Core.Path.{_≡_, sym, ap, subst, _∙_}
+use mathlib.Core.Path.{sym, ap, subst, _∙_}
 use mathlib.Core.Bool.{Bool, true}
 use Rattle.std.specs.declared.option.Option.{Option}
 use Rattle.host.specs.Rows.{Sound, look}
