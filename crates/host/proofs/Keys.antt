@@ -1,22 +1,24 @@
 -- Rows by address and ID, and by their key, are the same rows.
-use mathlib.Core.Path.{_≡_, refl, sym, ap, _∙_}
+use mathlib.Core.Path.{_≡_, refl, sym, ap, subst, _∙_}
 use mathlib.Core.List.{List, [], _∷_}
 use mathlib.Core.Bool.{Bool, true, false, not, cond, _&&_, _||_}
 use mathlib.Core.Logic.{_⊎_, ⊎-elim}
 use Prim.Native.Nat.{ℕ}
 use lib.Dec.{eqb}
+use lib.ListN.{getD}
 use Rattle.std.specs.shelf.Text.{sameBytes}
-use Rattle.std.specs.Options.{isSome}
+use Rattle.std.specs.Options.{Cases}
 use Rattle.std.specs.declared.option.Option.{Option}
 use Rattle.std.specs.declared.option.Option.the-variants.{Some, None}
 use Rattle.std.proofs.shelf.Tests.{and-parts, and-from, eqb-true, eq-eqb, both-ways, cases-bool}
 use Rattle.std.proofs.shelf.Equals.{sameBytes-decides}
 use Rattle.rising.specs.Order.{same-key}
-use Rattle.rising.specs.Lists.{holds, found, without}
+use Rattle.rising.specs.Lists.{Rising, Stands, Absent, holds, found, without}
 use Rattle.rising.proofs.Order.{same-eq, same-from}
 use Rattle.message.specs.Rows.{row-key, keep}
 use Rattle.message.specs.declared.row.Row.{Row}
 use Rattle.host.specs.Rows.{row, same, look, has, is-there, without-row}
+use Rattle.host.specs.Tables.{Placed}
 
 pub same-row : (a : ℕ) (i : List ℕ) (r : Row) → same a i r ≡ true → row-key r ≡ a ∷ i
 same-row a i r h =
@@ -79,3 +81,17 @@ without-same (r ∷ l) a i on = go (same-key (row-key r) (a ∷ i)) (same a i r)
     go false false e ih = ap (λ (ys : List Row). r ∷ ys) ih
     go true false e ih = absurd (both-ways true e refl)
     go false true e ih = absurd (both-ways false refl e)
+
+-- what a search by key tells of a row
+module _ (l : List Row) (up : Rising row-key l) (a : ℕ) (i : List ℕ) (on : Bool) where
+  abbrev pub Searched : Row → Option ℕ → Type 0
+  Searched x o =
+      Cases o (Rising row-key l → Absent row-key x l) (Stands row-key x l)
+      × Cases o (Rising row-key l → found row-key x l ≡ None) (λ k. Rising row-key l → (d : Row) → found row-key x l ≡ Some (getD l k d))
+
+  by-key : (o : Option ℕ) → Searched (row a i on) o → Placed l a i o
+  by-key None (p, f) = look-found l a i on ∙ ap state-of (f up)
+  by-key (Some k) (p, f) = (p .0, λ d. (p .1 d, look-found l a i on ∙ ap state-of (f up d)))
+
+  pub placed : (x : Row) → x ≡ row a i on → (o : Option ℕ) → Searched x o → Placed l a i o
+  placed x e o h = by-key o (subst (λ (z : Row). Searched z o) e h)
