@@ -1,0 +1,5 @@
+pub mod Places
+pub mod Withholding
+pub mod Lookups
+pub mod Setting
+pub mod Rivals
