@@ -5,7 +5,7 @@ use mathlib.Core.Bool.{Bool, true, false, cond, _&&_, _||_}
 use Prim.Native.Nat.{ℕ, zero, suc, _+_, _-_, _*_, _/_, _%_, _<_, _≤_}
 use native.Mathlib.Omega.{arith}
 use native.Mathlib.Numerals.{add-one}
-use lib.Dec.{eqb, ltb}
+use lib.Dec.{eqb, ltb, leb}
 use lib.ListN.{length, getD, take, drop, set}
 use lib.Seq.{take-suc-set, drop-cons}
 use Rattle.std.proofs.shelf.Lists.{at-drop-more, length-take-le, take-more, drop-all}
@@ -17,7 +17,7 @@ use Rattle.std.specs.declared.option.Option.the-variants.{Some, None}
 use Rattle.layers.specs.declared.member.Member.{Member}
 use Rattle.sheet.specs.Collisions.{hit, clash}
 use Rattle.sheet.specs.Reading.{room, reads-words, continued, header, sized, settled, reads}
-use Rattle.std.proofs.shelf.Tests.{ltb-true, and-parts, ne-eqb, both-ways, cond-true, cond-false, and-from, le-leb, eq-eqb}
+use Rattle.std.proofs.shelf.Tests.{ltb-true, and-parts, ne-eqb, both-ways, cond-true, cond-false, and-from, le-leb, leb-true, eq-eqb}
 use Rattle.host.specs.Rows.{tally}
 use Rattle.sheet.specs.Contents.{Contents, after}
 
@@ -120,7 +120,11 @@ all-words (a ∷ b ∷ c ∷ ws) u v w l p q r = rw (p, q, r)
 pub sized-true : (n : ℕ) → 16 ≤ n → n ≤ 784 → n % 4 ≡ 0 → sized n ≡ true
 sized-true n a b c = and-from _ _ (le-leb 16 n a) (and-from _ _ (le-leb n 784 b) (eq-eqb (n % 4) 0 c))
 
-pub reads-from : (bs : List ℕ) (u v w : ℕ) → 16 ≤ length bs → length bs ≤ 784 → length bs % 4 ≡ 0 → u ≡ getD (words bs) 0 0 → v ≡ getD (words bs) 1 0 → w ≡ getD (words bs) 2 0 → settled (continued (header u v w) (drop 3 (words bs))) ≡ reads bs
-reads-from bs u v w a b c p q r =
+pub sized-least : (n : ℕ) → true ≡ sized n → 16 ≤ n
+sized-least n h = leb-true 16 n (and-parts (leb 16 n) _ (sym h) .0)
+
+pub reads-from : (bs : List ℕ) (u v w : ℕ) → true ≡ sized (length bs) → u ≡ getD (words bs) 0 0 → v ≡ getD (words bs) 1 0 → w ≡ getD (words bs) 2 0 → settled (continued (header u v w) (drop 3 (words bs))) ≡ reads bs
+reads-from bs u v w h p q r =
     let m = words-count bs in
-    sym (cond-true _ _ _ (sized-true (length bs) a b c) ∙ ap settled (all-words (words bs) u v w (omega arith) p q r))
+    let l = sized-least (length bs) h in
+    sym (cond-true _ _ _ (sym h) ∙ ap settled (all-words (words bs) u v w (omega arith) p q r))

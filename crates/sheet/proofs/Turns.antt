@@ -91,3 +91,7 @@ fault-none true true true h = (refl, refl, refl)
 fault-none true true false h = absurd (let z : _≡_ {A = ℕ} 0 1 = cc in omega arith)
 fault-none true false rise h = absurd (let z : _≡_ {A = ℕ} 0 1 = cc in omega arith)
 fault-none false range rise h = absurd (let z : _≡_ {A = ℕ} 0 1 = cc in omega arith)
+
+-- and so there is a place for what it opens
+pub opening-room : (n last : ℕ) (c : Contents) (w : ℕ) → opening n last c w ≡ None → room c w ≡ true
+opening-room n last c w h = fault-none (follows last (kind w)) (fits n w) (room c w) h .2

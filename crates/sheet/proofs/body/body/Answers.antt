@@ -9,8 +9,13 @@ use Rattle.sheet.specs.Contents.{Contents}
 use Rattle.sheet.specs.Drafts.{contents}
 use Rattle.sheet.specs.Reading.{refused, body}
 use Rattle.sheet.proofs.Plain.{words-count}
-use Rattle.sheet.proofs.Turns.{body-none, body-refused, body-closed, body-cut, body-extra, body-bad, body-more}
+use Rattle.sheet.proofs.Turns.{body-none, body-refused, body-closed, body-cut, body-extra, body-bad, body-more, opening-room}
 use Rattle.sheet.proofs.body.body.Needs as need
+
+pub enter-requires : need.enter-requires
+enter-requires c κs =
+    let k = c .kind .ensures in
+    record { room = opening-room (c .loop-n .n) (c .loop-n .last) (contents (c .loop-n .draft)) (c .word-at-word .result) (sym (c .in-rest .ensures tt)); entry = λ h. c .if-kind-eq8 .left (k ∙ h) }
 
 pub returns-in-Some : need.returns-in-Some
 returns-in-Some c =
