@@ -7,3 +7,4 @@ pub mod Valid
 pub mod Law
 pub mod Drafts
 pub mod Told
+pub mod Piles

@@ -8,13 +8,14 @@ use layers::Pairs;
 use message::Identity;
 
 // What is promised of a sheet names its value, which cannot be done where it is declared.
+mod calls;
 pub(crate) mod making;
 
 /// An instrument as its maker wrote it down: identity and Function Block, rows, members of sets and held pairs, all in range
 /// and in order, with at most one row of a set on at an address.
 #[derive(Drop)]
 pub struct Sheet {
-    pub identity: Identity,
+    identity: Identity,
     table: Table,
     members: Members,
     pairs: Pairs,
