@@ -2,6 +2,10 @@
 mod instrument;
 mod words;
 
+ghost use Prim.Native.Nat.{_≤_};
+ghost use lib.ListN.{length};
+ghost use Rattle.std.specs.Results.{Cases as ByOk};
+
 use instrument::write_instrument;
 use sheet::read_sheet;
 use sheet::refusal::SheetRefusalDisplay;
@@ -21,7 +25,9 @@ enum Failure {
 }
 
 /// Fills the buffer from standard input, and tells how many bytes there were.
-fn fill(rt: &LibcRuntime, buffer: &mut [u8]) -> io::Result<usize> {
+fn fill(rt: &LibcRuntime, buffer: &mut [u8]) -> io::Result<usize>
+    ensures { λ r. ⌜ ByOk r (λ n. n ≤ length (now (buffer .entry))) (λ _. Unit {0}) ⌝ }
+{
     let mut input = rt.stdin();
     let mut filled = 0;
     while filled < buffer.len() {
