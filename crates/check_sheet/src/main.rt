@@ -5,7 +5,6 @@ mod words;
 ghost use Prim.Native.Nat.{_≤_};
 ghost use lib.ListN.{length};
 ghost use Rattle.std.specs.Results.{Cases as ByOk};
-
 use instrument::write_instrument;
 use sheet::read_sheet;
 use sheet::refusal::SheetRefusalDisplay;
