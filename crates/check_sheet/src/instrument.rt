@@ -78,7 +78,7 @@ fn write_pairs<W: Write>(out: &mut W, pairs: &[Pair]) -> io::Result<()> {
 
 /// Writes what the sheet says: identity, rows by address with their state, sets, and held rows.
 pub fn write_instrument<W: Write>(out: &mut W, sheet: &Sheet) -> io::Result<()> {
-    write_identity(out, sheet.identity())?;
+    write_identity(out, sheet.identity)?;
     write_rows(out, sheet.rows())?;
     write_members(out, sheet.members())?;
     write_pairs(out, sheet.pairs())

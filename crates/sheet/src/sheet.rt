@@ -15,7 +15,8 @@ pub(crate) mod making;
 /// and in order, with at most one row of a set on at an address.
 #[derive(Drop)]
 pub struct Sheet {
-    identity: Identity,
+    /// Manufacturer, family, model and revision, and the Function Block.
+    pub identity: Identity,
     table: Table,
     members: Members,
     pairs: Pairs,

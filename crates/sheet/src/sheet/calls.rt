@@ -10,18 +10,9 @@ use layers::Holding;
 use layers::Member;
 use layers::Pair;
 use layers::Sets;
-use message::Identity;
 use message::Row;
 
 impl Sheet {
-    /// Manufacturer, family, model and revision, and the Function Block.
-    pub fn identity(&self) -> Identity
-        ensures bytes { λ r. ⌜ r .bytes ≡ holds (now (self .entry)) .identity ⌝ }
-        ensures block { λ r. ⌜ r .block ≡ holds (now (self .entry)) .block ⌝ }
-    {
-        self.identity
-    }
-
     /// The rows, rising by address and then by ID bytes.
     pub fn rows(&self) -> &[Row]
         ensures { λ r. ⌜ now r ≡ holds (now (self .entry)) .rows ⌝ }
