@@ -1,0 +1,10 @@
+use mathlib.Core.Path.{_≡_}
+use Prim.Native.Nat.{_-_, _≤_}
+use lib.ListN.{length}
+use Rattle.check_sheet.proofs.fill.Given as given
+
+abbrev pub Inv-loop-filled : given.InvT-loop-filled
+Inv-loop-filled l = (l .filled ≤ length (l .entry .buffer)) × (length (l .buffer) ≡ length (l .entry .buffer))
+
+abbrev pub μ-loop-filled : given.MeasureT-loop-filled
+μ-loop-filled l = length (l .entry .buffer) - l .filled

@@ -1,0 +1,12 @@
+pub mod Orderly
+pub mod Plain
+pub mod Turns
+pub mod Parts
+pub mod Only
+pub mod Bytes
+pub mod Splits
+pub mod Pass
+pub mod Counts
+pub mod All
+pub mod Ends
+pub mod Header

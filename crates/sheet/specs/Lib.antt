@@ -1,0 +1,10 @@
+pub mod Words
+pub mod Contents
+pub mod Collisions
+pub mod Reading
+pub mod Layout
+pub mod Valid
+pub mod Law
+pub mod Drafts
+pub mod Told
+pub mod Piles
