@@ -8,7 +8,11 @@ pub use desk::Desk;
 mod tests {
     use super::*;
     use crate::desk::DeskHost;
+    use host::Fixed;
     use host::Host;
+    use host::Table;
+    use host::fixed::FixedHost;
+    use host::table::TableHost;
     use layers::Holding;
     use layers::Member;
     use layers::Members;
@@ -18,6 +22,7 @@ mod tests {
     use layers::holding::HoldingHost;
     use layers::sets::SetsHost;
     use message::Refusal;
+    use message::Row;
     use message::refusal::RefusalDebug;
     use message::refusal::RefusalPartialEq;
     use std::test::*;
@@ -74,6 +79,58 @@ mod tests {
             pairs,
         );
         second_goes_on(&mut allowing, true)
+    }
+
+    fn rows() -> [Row; 3] {
+        [
+            Row {
+                address: 0,
+                id: FIRST,
+                on: true,
+            },
+            Row {
+                address: 0,
+                id: SECOND,
+                on: false,
+            },
+            Row {
+                address: 0,
+                id: THIRD,
+                on: false,
+            },
+        ]
+    }
+
+    // The first and the second are in one set, and the third is held: what goes where rows can change, and where nothing does.
+    fn play<P: Host>(pile: &mut P, changes: bool) -> Result<(), Fail> {
+        check_eq(pile.switch(0, SECOND, true), changes)?;
+        check_eq(is_on(pile, 0), !changes).note("the rival")?;
+        check_eq(is_on(pile, 1), changes)?;
+        check(!pile.switch(0, THIRD, true)).note("held")?;
+        check_eq(pile.is_fixed(), !changes)?;
+        check_eq(pile.plug(1, FIRST), changes)?;
+        check_eq(pile.pull(0, FIRST), changes)?;
+        check_eq(pile.rows().len(), 3)
+    }
+
+    #[test]
+    fn piles_over_the_two_hosts() -> Result<(), Fail> {
+        let held = [Pair {
+            address: 0,
+            id: THIRD,
+        }];
+        let set = [Member { id: FIRST, set: 1 }, Member { id: SECOND, set: 1 }];
+        let (Ok(pairs), Ok(members)) = (Pairs::from_slice(&held), Members::from_slice(&set)) else {
+            return check(false).note("lists");
+        };
+        let Ok(table) = Table::from_rows(&rows()) else {
+            return check(false).note("table");
+        };
+        play(&mut Sets::over(Holding::over(table, pairs), members), true)?;
+        let Ok(fixed) = Fixed::from_rows(&rows()) else {
+            return check(false).note("fixed");
+        };
+        play(&mut Holding::over(Sets::over(fixed, members), pairs), false)
     }
 
     #[test]
