@@ -120,8 +120,11 @@ mod tests {
             id: THIRD,
         }];
         let set = [Member { id: FIRST, set: 1 }, Member { id: SECOND, set: 1 }];
-        let (Ok(pairs), Ok(members)) = (Pairs::from_slice(&held), Members::from_slice(&set)) else {
-            return check(false).note("lists");
+        let Ok(pairs) = Pairs::from_slice(&held) else {
+            return check(false).note("pairs");
+        };
+        let Ok(members) = Members::from_slice(&set) else {
+            return check(false).note("members");
         };
         let Ok(table) = Table::from_rows(&rows()) else {
             return check(false).note("table");
