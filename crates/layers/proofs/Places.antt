@@ -20,7 +20,7 @@ use Rattle.rising.specs.Order.{Key, same-key}
 use Rattle.rising.specs.Lists.{found, rising, Rising}
 use Rattle.rising.proofs.Order.{same-eq, same-from}
 use Rattle.layers.specs.declared.member.Member.{Member}
-use Rattle.layers.specs.Lists.{every, judged, member-key, member-ranged}
+use Rattle.layers.specs.Lists.{every, judged, in-order, member-key, member-ranged}
 use Rattle.layers.specs.Sets.{set-of}
 
 module _ {X : Type 0} (p : X → Bool) where
@@ -59,7 +59,7 @@ set-positive ms k d h lt =
 -- entries that are not refused are in range, in order and not too many
 pub record Accepted {X : Type 0} (ranged : X → Bool) (key : X → Key) (xs : List X) : Type 0 where
   pub fit : every ranged xs ≡ true
-  pub ordered : (leb (length xs) 16 && rising key xs) ≡ true
+  pub ordered : in-order key xs ≡ true
   pub few : length xs ≤ 16
   pub up : Rising key xs
 
@@ -69,8 +69,8 @@ unrefused true false u e = absurd (grind arith)
 unrefused false ordered u e = absurd (grind arith)
 
 pub accepted : {X : Type 0} (ranged : X → Bool) (key : X → Key) (xs : List X) (r : Result (Unit {0}) Refusal) (u : Unit {0})
-    → r ≡ judged (every ranged xs) (leb (length xs) 16 && rising key xs) → r ≡ Ok u → Accepted ranged key xs
+    → r ≡ judged (every ranged xs) (in-order key xs) → r ≡ Ok u → Accepted ranged key xs
 accepted ranged key xs r u e t =
-    let j = unrefused (every ranged xs) (leb (length xs) 16 && rising key xs) u (sym e ∙ t) in
+    let j = unrefused (every ranged xs) (in-order key xs) u (sym e ∙ t) in
     let p = and-parts (leb (length xs) 16) (rising key xs) (j .1) in
     record { fit = j .0; ordered = j .1; few = leb-true (length xs) 16 (p .0); up = p .1 }

@@ -43,7 +43,7 @@ and-false true = refl
 and-false false = refl
 
 rival-from : (ms : List Member) (a : ℕ) (i : List ℕ) (r : Row) → Rival ms a i r → rival ms a i r ≡ true
-rival-from ms a i r q = and-from _ _ (q .here) (and-from _ _ (q .on) (and-from _ _ (q .set) (not-from-false _ (q .other))))
+rival-from ms a i r q = and-from _ _ (q .here) (and-from _ _ (q .on) (and-from _ _ (q .joined) (not-from-false _ (q .other))))
 
 -- the ID is that of a rival
 abbrev rivals : List Member → List Row → ℕ → List ℕ → List ℕ → Bool
@@ -142,7 +142,7 @@ module _ (ms : List Member) (l : List Row) (c : Consents) (f : Bool) (a : ℕ) (
         let o = only (eqb a (x .address) && ids (x .id)) (x .on) (vx .on) in
         let same-id : y .id ≡ x .id = ap (λ (r : Row). r .id) is in
         let left : ids (x .id) ≡ false = and-second _ _ (o .0) (vx .here) in
-        let rx : rival ms a i x ≡ true = rival-from ms a i x (record { here = vx .here; on = o .1; set = vx .set; other = vx .other }) in
+        let rx : rival ms a i x ≡ true = rival-from ms a i x (record { here = vx .here; on = o .1; joined = vx .joined; other = vx .other }) in
         let sx : Switched l′ c′ f′ a (x .id) false l″ c″ f″ answer = subst (λ (j : List ℕ). Switched l′ c′ f′ a j false l″ c″ f″ answer) same-id s in
         let free : c .off a (x .id) ≡ true =
         free-row (rival ms a i x) (c .off a (x .id)) (none-at (λ r. rival ms a i r && not (c .off a (r .id))) l k d (on-parts ms l c a i h .1) lk) rx in

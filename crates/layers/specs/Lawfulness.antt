@@ -42,7 +42,7 @@ held-lawful ps l c w =
 pub record Rival (ms : List Member) (a : ℕ) (i : List ℕ) (r : Row) : Type 0 where
   pub here : eqb a (r .address) ≡ true
   pub on : r .on ≡ true
-  pub set : together ms i (r .id) ≡ true
+  pub joined : together ms i (r .id) ≡ true
   pub other : sameBytes i (r .id) ≡ false
 
 pub rival-parts : (ms : List Member) (a : ℕ) (i : List ℕ) (r : Row) → rival ms a i r ≡ true → Rival ms a i r
@@ -50,7 +50,7 @@ rival-parts ms a i r h =
     let x = and-parts _ _ h in
     let y = and-parts _ _ (x .1) in
     let z = and-parts _ _ (y .1) in
-    record { here = x .0; on = y .0; set = z .0; other = not-true _ (z .1) }
+    record { here = x .0; on = y .0; joined = z .0; other = not-true _ (z .1) }
 
 pub bytes-turn : (i j : List ℕ) → sameBytes i j ≡ false → sameBytes j i ≡ false
 bytes-turn i j h =

@@ -3,9 +3,11 @@ use mathlib.Core.Path.{_≡_}
 use mathlib.Core.List.{List, [], _∷_}
 use mathlib.Core.Bool.{Bool, true, false, _&&_}
 use lib.Dec.{leb}
+use lib.ListN.{length}
 use Rattle.std.specs.declared.result.Result.{Result}
 use Rattle.std.specs.declared.result.Result.the-variants.{Ok, Err}
 use Rattle.rising.specs.Order.{Key}
+use Rattle.rising.specs.Lists.{rising}
 use Rattle.message.specs.Bytes.{is-id}
 use Rattle.message.specs.Rows.{ranged}
 use Rattle.message.specs.declared.refusal.Refusal.{Refusal}
@@ -40,6 +42,17 @@ abbrev pub judged : Bool → Bool → Result (Unit {0}) Refusal
 judged false ordered = Err FieldOutOfRange
 judged true false = Err NotRising
 judged true true = Ok tt
+
+-- at most 16 entries that rise strictly
+abbrev pub in-order : {X : Type 0} → (X → Key) → List X → Bool
+in-order key xs = leb (length xs) 16 && rising key xs
+
+-- whether pairs are refused, and whether members are
+abbrev pub judged-pairs : List Pair → Result (Unit {0}) Refusal
+judged-pairs ps = judged (every pair-ranged ps) (in-order pair-key ps)
+
+abbrev pub judged-members : List Member → Result (Unit {0}) Refusal
+judged-members ms = judged (every member-ranged ms) (in-order member-key ms)
 
 -- What the making of a list answers: the refusal, or a value that means just the entries that were given.
 abbrev pub Made : {X L : Type 0} → (L → List X) → List X → Result (Unit {0}) Refusal → Result L Refusal → Type 0

@@ -1,12 +1,10 @@
 //! The entries of a layer's own list.
 ghost use mathlib.Core.Path.{_≡_};
-ghost use mathlib.Core.Bool.{Bool, _&&_};
-ghost use lib.Dec.{leb};
+ghost use mathlib.Core.Bool.{Bool};
 ghost use Prim.Native.Nat.{_≤_};
 ghost use lib.ListN.{length, take};
 ghost use Rattle.std.specs.shelf.Text.{sameBytes};
-ghost use Rattle.rising.specs.Lists.{rising};
-ghost use Rattle.layers.specs.Lists.{every, judged};
+ghost use Rattle.layers.specs.Lists.{every, judged, in-order};
 use message::Refusal;
 use rising::Keyed;
 use rising::rises;
@@ -37,7 +35,7 @@ fn all_in_range<T: Ranged + Copy>(list: &[T]) -> bool
 
 /// Refuses entries of which one is out of range, and else entries that do not rise strictly or are more than 16.
 pub fn judge<T: Keyed + Ranged + Copy>(list: &[T]) -> Result<(), Refusal>
-    ensures { λ r. ⌜ r ≡ judged (every (T·Ranged .ranged) (now (list .entry))) (leb (length (now (list .entry))) 16 && rising (T·Keyed .key) (now (list .entry))) ⌝ }
+    ensures { λ r. ⌜ r ≡ judged (every (T·Ranged .ranged) (now (list .entry))) (in-order (T·Keyed .key) (now (list .entry))) ⌝ }
 {
     if !all_in_range(list) {
         return Err(Refusal::FieldOutOfRange);

@@ -33,13 +33,15 @@ impl<B> Holding<B> {
     }
 }
 
-// Passes a switch of a row on to the host below, which is the layer's where the row is not among the pairs.
-fn pass_switch<B: Host>(below: &mut B, pairs: &Pairs, address: u8, id: [u8; 5], on: bool) -> bool
-    requires { ⌜ withheld (pairs-of (now pairs)) address id ≡ false ⌝ }
-    ensures does { λ r. ⌜ Switched (B·Host .listing (now (below .entry))) (held (pairs-of (now (pairs .entry))) (B·Host .consents (now (below .entry)))) (B·Host .fixed (now (below .entry))) address id on (B·Host .listing (now (below .exit))) (held (pairs-of (now (pairs .entry))) (B·Host .consents (now (below .exit)))) (B·Host .fixed (now (below .exit))) r ⌝ }
-    ensures same { λ _. ⌜ B·Host .keeps (now (below .entry)) (now (below .exit)) ⌝ }
-{
-    below.switch(address, id, on)
+impl<B: Host> Holding<B> {
+    // A switch below is the layer's, where the row is not among the pairs.
+    fn pass_switch(&mut self, address: u8, id: [u8; 5], on: bool) -> bool
+        requires { ⌜ withheld (pairs-of (now self .pairs)) address id ≡ false ⌝ }
+        ensures does { λ r. ⌜ Switched (B·Host .listing (now (self .entry) .below)) (held (pairs-of (now (self .entry) .pairs)) (B·Host .consents (now (self .entry) .below))) (B·Host .fixed (now (self .entry) .below)) address id on (B·Host .listing (now (self .exit) .below)) (held (pairs-of (now (self .exit) .pairs)) (B·Host .consents (now (self .exit) .below))) (B·Host .fixed (now (self .exit) .below)) r ⌝ }
+        ensures same { λ _. ⌜ (pairs-of (now (self .entry) .pairs) ≡ pairs-of (now (self .exit) .pairs)) × B·Host .keeps (now (self .entry) .below) (now (self .exit) .below) ⌝ }
+    {
+        self.below.switch(address, id, on)
+    }
 }
 
 pub impl<B: Host> Host for Holding<B> as HoldingHost {
@@ -78,8 +80,7 @@ pub impl<B: Host> Host for Holding<B> as HoldingHost {
     }
 
     fn switch(&mut self, address: u8, id: [u8; 5], on: bool) -> bool {
-        !self.pairs.contains(address, id)
-            && pass_switch(&mut self.below, &self.pairs, address, id, on)
+        !self.pairs.contains(address, id) && self.pass_switch(address, id, on)
     }
 
     fn plug(&mut self, address: u8, id: [u8; 5]) -> bool {

@@ -150,6 +150,26 @@ fn switch_on<B: Host>(below: &mut B, members: &Members, address: u8, id: [u8; 5]
     }
 }
 
+impl<B: Host> Sets<B> {
+    // A plug below is the layer's: the row comes in off.
+    fn pass_plug(&mut self, address: u8, id: [u8; 5]) -> bool
+        ensures does { λ r. ⌜ Plugged (B·Host .listing (now (self .entry) .below)) (setted (members-of (now (self .entry) .members)) (B·Host .listing (now (self .entry) .below)) (B·Host .consents (now (self .entry) .below))) (B·Host .fixed (now (self .entry) .below)) address id (B·Host .listing (now (self .exit) .below)) (setted (members-of (now (self .exit) .members)) (B·Host .listing (now (self .exit) .below)) (B·Host .consents (now (self .exit) .below))) (B·Host .fixed (now (self .exit) .below)) r ⌝ }
+        ensures same { λ _. ⌜ (members-of (now (self .entry) .members) ≡ members-of (now (self .exit) .members)) × B·Host .keeps (now (self .entry) .below) (now (self .exit) .below) ⌝ }
+        ensures one { λ _. ⌜ (AtMostOne (members-of (now (self .entry) .members)) (B·Host .listing (now (self .entry) .below)) → AtMostOne (members-of (now (self .exit) .members)) (B·Host .listing (now (self .exit) .below))) ⌝ }
+    {
+        self.below.plug(address, id)
+    }
+
+    // A pull below is the layer's: only a row that is off goes.
+    fn pass_pull(&mut self, address: u8, id: [u8; 5]) -> bool
+        ensures does { λ r. ⌜ Pulled (B·Host .listing (now (self .entry) .below)) (setted (members-of (now (self .entry) .members)) (B·Host .listing (now (self .entry) .below)) (B·Host .consents (now (self .entry) .below))) (B·Host .fixed (now (self .entry) .below)) address id (B·Host .listing (now (self .exit) .below)) (setted (members-of (now (self .exit) .members)) (B·Host .listing (now (self .exit) .below)) (B·Host .consents (now (self .exit) .below))) (B·Host .fixed (now (self .exit) .below)) r ⌝ }
+        ensures same { λ _. ⌜ (members-of (now (self .entry) .members) ≡ members-of (now (self .exit) .members)) × B·Host .keeps (now (self .entry) .below) (now (self .exit) .below) ⌝ }
+        ensures one { λ _. ⌜ (AtMostOne (members-of (now (self .entry) .members)) (B·Host .listing (now (self .entry) .below)) → AtMostOne (members-of (now (self .exit) .members)) (B·Host .listing (now (self .exit) .below))) ⌝ }
+    {
+        self.below.pull(address, id)
+    }
+}
+
 pub impl<B: Host> Host for Sets<B> as SetsHost {
     ghost listing = { λ h. B·Host .listing (h .below) };
 
@@ -206,7 +226,7 @@ pub impl<B: Host> Host for Sets<B> as SetsHost {
         ensures same { λ _. ⌜ (members-of (now (self .entry) .members) ≡ members-of (now (self .exit) .members)) × B·Host .keeps (now (self .entry) .below) (now (self .exit) .below) ⌝ }
         ensures one { λ _. ⌜ (AtMostOne (members-of (now (self .entry) .members)) (B·Host .listing (now (self .entry) .below)) → AtMostOne (members-of (now (self .exit) .members)) (B·Host .listing (now (self .exit) .below))) ⌝ }
     {
-        self.below.plug(address, id)
+        self.pass_plug(address, id)
     }
 
     fn pull(&mut self, address: u8, id: [u8; 5]) -> bool
@@ -214,6 +234,6 @@ pub impl<B: Host> Host for Sets<B> as SetsHost {
         ensures same { λ _. ⌜ (members-of (now (self .entry) .members) ≡ members-of (now (self .exit) .members)) × B·Host .keeps (now (self .entry) .below) (now (self .exit) .below) ⌝ }
         ensures one { λ _. ⌜ (AtMostOne (members-of (now (self .entry) .members)) (B·Host .listing (now (self .entry) .below)) → AtMostOne (members-of (now (self .exit) .members)) (B·Host .listing (now (self .exit) .below))) ⌝ }
     {
-        self.below.pull(address, id)
+        self.pass_pull(address, id)
     }
 }

@@ -1,12 +1,11 @@
 //! How a list of members is made, and what is asked of it.
 ghost use mathlib.Core.Path.{_≡_};
-ghost use mathlib.Core.Bool.{true, _&&_};
+ghost use mathlib.Core.Bool.{true};
 ghost use Prim.Native.Nat.{_≤_, _<_};
-ghost use lib.Dec.{leb};
 ghost use lib.ListN.{length};
 ghost use Rattle.std.specs.Options.{Cases as BySome};
-ghost use Rattle.rising.specs.Lists.{rising, Rising};
-ghost use Rattle.layers.specs.Lists.{every, judged, Made, member-key, member-ranged};
+ghost use Rattle.rising.specs.Lists.{Rising};
+ghost use Rattle.layers.specs.Lists.{every, judged-members, Made, member-key, member-ranged};
 ghost use Rattle.layers.specs.Models.{members-of};
 ghost use Rattle.layers.specs.Sets.{set-of, together, rival};
 use super::Members;
@@ -23,7 +22,7 @@ use rising::find;
 impl Members {
     /// The list of these members. Refused if one is out of range, and else if they do not rise strictly or are more than 16.
     pub fn from_slice(members: &[Member]) -> Result<Members, Refusal>
-        ensures { λ r. ⌜ Made members-of (now (members .entry)) (judged (every member-ranged (now (members .entry))) (leb (length (now (members .entry))) 16 && rising member-key (now (members .entry)))) r ⌝ }
+        ensures { λ r. ⌜ Made members-of (now (members .entry)) (judged-members (now (members .entry))) r ⌝ }
     {
         judge(members)?;
         let mut slots = [Member { id: [0; 5], set: 0 }; 16];

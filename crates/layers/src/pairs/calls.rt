@@ -1,11 +1,10 @@
 //! How a list of pairs is made, and what is asked of it.
 ghost use mathlib.Core.Path.{_≡_};
-ghost use mathlib.Core.Bool.{true, _&&_};
+ghost use mathlib.Core.Bool.{true};
 ghost use Prim.Native.Nat.{_≤_};
-ghost use lib.Dec.{leb};
 ghost use lib.ListN.{length};
-ghost use Rattle.rising.specs.Lists.{rising, Rising};
-ghost use Rattle.layers.specs.Lists.{every, judged, Made, pair-key, pair-ranged};
+ghost use Rattle.rising.specs.Lists.{Rising};
+ghost use Rattle.layers.specs.Lists.{every, judged-pairs, Made, pair-key, pair-ranged};
 ghost use Rattle.layers.specs.Models.{pairs-of};
 ghost use Rattle.layers.specs.Holding.{withheld};
 use super::Pairs;
@@ -20,7 +19,7 @@ use rising::find;
 impl Pairs {
     /// The list of these pairs. Refused if one is out of range, and else if they do not rise strictly or are more than 16.
     pub fn from_slice(pairs: &[Pair]) -> Result<Pairs, Refusal>
-        ensures { λ r. ⌜ Made pairs-of (now (pairs .entry)) (judged (every pair-ranged (now (pairs .entry))) (leb (length (now (pairs .entry))) 16 && rising pair-key (now (pairs .entry)))) r ⌝ }
+        ensures { λ r. ⌜ Made pairs-of (now (pairs .entry)) (judged-pairs (now (pairs .entry))) r ⌝ }
     {
         judge(pairs)?;
         let mut slots = [Pair {

@@ -2,7 +2,7 @@ use mathlib.Core.Path.{refl}
 use Rattle.layers.specs.Models.{members-of}
 use Rattle.layers.proofs.Setting.{setted-plugged}
 use Rattle.layers.proofs.Rivals.{enter-one}
-use Rattle.layers.proofs.sets.SetsHost.plug.Needs as need
+use Rattle.layers.proofs.sets.Sets.pass_plug.Needs as need
 
 pub returns : need.returns
 returns g c =

@@ -2,7 +2,7 @@ use mathlib.Core.Path.{refl}
 use Rattle.layers.specs.Models.{members-of}
 use Rattle.layers.proofs.Setting.{setted-pulled}
 use Rattle.layers.proofs.Rivals.{remove-one}
-use Rattle.layers.proofs.sets.SetsHost.pull.Needs as need
+use Rattle.layers.proofs.sets.Sets.pass_pull.Needs as need
 
 pub returns : need.returns
 returns g c =
