@@ -1,6 +1,8 @@
 //! What reading answers, and what the pile does that a sheet makes.
 use crate::writing::Writing;
 use host::Host;
+use host::table::TableHost;
+use layers::holding::HoldingHost;
 use layers::sets::SetsHost;
 use message::Refusal;
 use sheet::SheetRefusal;
@@ -221,11 +223,11 @@ fn an_organ() -> Result<(), Fail> {
     let mut pile = sheet.into_pile();
     check_eq(pile.rows().len(), 4)?;
     check(!pile.is_fixed())?;
-    check(pile.puts_off(0, [0, 0, 0, 2, 0], [0, 0, 0, 3, 0])).note("of one set")?;
-    check(pile.switch(0, [0, 0, 0, 2, 0], true))?;
-    check(!pile.switch(0, [0, 0, 0, 3, 0], false)).note("off by now")?;
-    check(!pile.switch(0x7E, [0, 0, 0, 5, 0], false)).note("held")?;
-    check(pile.plug(1, [0, 0, 0, 2, 0]))
+    check(pile.puts_off(0, [0, 0, 0, 0, 2], [0, 0, 0, 0, 3])).note("of one set")?;
+    check(pile.switch(0, [0, 0, 0, 0, 2], true))?;
+    check(!pile.switch(0, [0, 0, 0, 0, 3], false)).note("off by now")?;
+    check(!pile.switch(0x7E, [0, 0, 0, 0, 5], false)).note("held")?;
+    check(pile.plug(1, [0, 0, 0, 0, 2]))
 }
 
 #[test]
