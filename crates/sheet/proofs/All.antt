@@ -47,7 +47,7 @@ address-low a h = grind (arith, tells)
 set-low : (a : ℕ) → is-set a ≡ true → a < 128
 set-low a h = grind (arith, tells)
 
--- the parts of a record's two words
+-- the parts of an entry's two words
 pub record Parts (k head : ℕ) (id : List ℕ) (mark w v : ℕ) : Type 0 where
   pub kind-is : kind w ≡ k
   pub head-is : first w ≡ head

@@ -146,7 +146,7 @@ orderly-pair c p o g u l = record {
 abbrev Grown : Contents → (w v : ℕ) → ℕ → Contents → Type 0
 Grown c w v k d = (so-far d ≡ so-far c ++ (w ∷ v ∷ [])) × Orderly d × Placed k d
 
--- the tests of a record's two words, by its kind
+-- the tests of an entry's two words, by its kind
 pub choose : {X : Type 0} (k j : ℕ) (x y : X) → (k ≡ j → ⊥) → cond (eqb k j) x y ≡ y
 choose k j x y h = cond-false _ _ _ (ne-eqb k j h)
 

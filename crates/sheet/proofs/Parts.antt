@@ -1,4 +1,4 @@
--- Words and their parts; lists of records and their words.
+-- Words and their parts; lists of entries and their words.
 use mathlib.Core.Path.{_≡_, refl, sym, ap, subst, _∙_}
 use mathlib.Core.List.{List, [], _∷_, _++_, append-assoc, append-nil}
 use mathlib.Core.Bool.{Bool, true, false, cond, _&&_, _||_}

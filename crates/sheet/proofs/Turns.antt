@@ -14,6 +14,7 @@ use Rattle.std.specs.declared.option.Option.{Option}
 use Rattle.std.specs.declared.option.Option.the-variants.{Some, None}
 use Rattle.message.specs.declared.refusal.Refusal.{Refusal}
 use Rattle.message.specs.declared.refusal.Refusal.the-variants.{SheetLength, SheetOrder, FieldOutOfRange, NotRising, SetCollision}
+use Rattle.sheet.specs.declared.refusal.SheetRefusal.{SheetRefusal}
 use Rattle.sheet.specs.Words.{kind}
 use Rattle.sheet.specs.Contents.{Contents}
 use Rattle.sheet.specs.Reading.{Outcome, accepted, refused, opening, ending, entered, judged, body, room, fault, follows, fits}
@@ -95,3 +96,7 @@ fault-none false range rise h = absurd (let z : _≡_ {A = ℕ} 0 1 = cc in omeg
 -- and so there is a place for what it opens
 pub opening-room : (n last : ℕ) (c : Contents) (w : ℕ) → opening n last c w ≡ None → room c w ≡ true
 opening-room n last c w h = fault-none (follows last (kind w)) (fits n w) (room c w) h .2
+
+-- a refusal by its parts
+pub told-as : (e : SheetRefusal) (r : Refusal) (n : ℕ) → (e .refusal ≡ r) × (e .word ≡ n) → refused (e .refusal) (e .word) ≡ refused r n
+told-as e r n h = ap (λ (x : Refusal). refused x (e .word)) (h .0) ∙ ap (refused r) (h .1)

@@ -9,7 +9,7 @@ use Rattle.layers.specs.declared.pair.Pair.{Pair}
 use Rattle.sheet.specs.Words.{word}
 use Rattle.sheet.specs.Contents.{Contents}
 
--- a record's two words: its kind, a head and three ID bytes; then kind 5, two ID bytes, 0 and a mark
+-- an entry's two words: its kind, a head and three ID bytes; then kind 5, two ID bytes, 0 and a mark
 abbrev pub two-words : (k head : ℕ) → List ℕ → (mark : ℕ) → List ℕ
 two-words k head id mark =
     word k head (getD id 0 0) (getD id 1 0) (getD id 2 0) ∷ word 5 (getD id 3 0) (getD id 4 0) 0 mark ∷ []

@@ -43,7 +43,7 @@ room c w =
     (cond (eqb (kind w) 4) (ltb (length (c .rows)) 64 && ltb (tally (first w) (c .rows)) 21)
     (cond (eqb (kind w) 6) (ltb (length (c .members)) 16) (ltb (length (c .pairs)) 16)))
 
--- what is wrong with a first word at n, after a record of the kind last
+-- what is wrong with a first word at n, after an entry of the kind last
 abbrev pub opening : (n last : ℕ) → Contents → ℕ → Option Refusal
 opening n last c w = fault (follows last (kind w)) (fits n w) (room c w)
 
@@ -64,7 +64,7 @@ pair-of w v = record { address = first w; id = id-of w v }
 abbrev pub fits-end : (w v : ℕ) → Bool
 fits-end w v = eqb (third v) 0 && leb (fourth v) (cond (eqb (kind w) 4) 1 0)
 
--- the record comes after those of its kind
+-- the entry comes after those of its kind
 abbrev pub rises : Contents → (w v : ℕ) → Bool
 rises c w v =
     cond (eqb (kind w) 4) (after row-key (c .rows) (row-of w v))
@@ -83,7 +83,7 @@ with-member c m = record { identity = c .identity; block = c .block; rows = c .r
 abbrev pub with-pair : Contents → Pair → Contents
 with-pair c p = record { identity = c .identity; block = c .block; rows = c .rows; members = c .members; pairs = c .pairs ++ p ∷ [] }
 
--- the contents with the record of two words
+-- the contents with the entry of two words
 abbrev pub entered : Contents → (w v : ℕ) → Contents
 entered c w v =
     cond (eqb (kind w) 4) (with-row c (row-of w v))
@@ -94,7 +94,7 @@ abbrev pub judged : ℕ → Option Refusal → Outcome → Outcome
 judged n (Some e) rest = refused e n
 judged n None rest = rest
 
--- the words from n on, after a record of the kind last: records of two words, and the closing word at the very end
+-- the words from n on, after an entry of the kind last: entries of two words, and the closing word at the very end
 unfoldable pub body : (n last : ℕ) → Contents → List ℕ → Outcome
 body n last c [] = refused SheetOrder n
 body n last c (w ∷ []) = judged n (opening n last c w) (cond (eqb (kind w) 8) (accepted c) (refused SheetOrder (n + 1)))

@@ -13,7 +13,6 @@ use crate::draft::opening;
 use crate::refusal::SheetRefusal;
 use crate::word::kind;
 use crate::word::word_at;
-use message::Refusal;
 
 // Reads the words from the fourth on.
 pub(crate) fn body(bytes: &[u8], mut draft: Draft) -> Result<Draft, SheetRefusal>
@@ -30,18 +29,12 @@ pub(crate) fn body(bytes: &[u8], mut draft: Draft) -> Result<Draft, SheetRefusal
         }
         if kind(word) == 8 {
             if n + 1 < total {
-                return Err(SheetRefusal {
-                    refusal: Refusal::SheetOrder,
-                    word: n + 1,
-                });
+                return Err(SheetRefusal::order(n + 1));
             }
             return Ok(draft);
         }
         if n + 1 == total {
-            return Err(SheetRefusal {
-                refusal: Refusal::SheetOrder,
-                word: total,
-            });
+            return Err(SheetRefusal::order(total));
         }
         let then = word_at(bytes, n + 1);
         if let Some(refusal) = ending(&draft, word, then) {
@@ -54,8 +47,5 @@ pub(crate) fn body(bytes: &[u8], mut draft: Draft) -> Result<Draft, SheetRefusal
         last = kind(word);
         n += 2;
     }
-    Err(SheetRefusal {
-        refusal: Refusal::SheetOrder,
-        word: total,
-    })
+    Err(SheetRefusal::order(total))
 }

@@ -29,6 +29,7 @@ use message::row::RowKeyed;
 use rising::Keyed;
 use std::cmp::Ordering;
 
+/// The identity, and the entries read so far.
 #[derive(Drop)]
 pub struct Draft {
     pub identity: Identity,
@@ -37,12 +38,14 @@ pub struct Draft {
     pub pairs: PairSlots,
 }
 
+// A channel, the Group or the Function Block.
 fn is_address(a: u8) -> bool
     ensures { λ r. ⌜ r ≡ is-address a ⌝ }
 {
     (a < 0x10) | ((a == 0x7E) | (a == 0x7F))
 }
 
+// Sets are numbered from 1 to 8.
 fn is_set(s: u8) -> bool
     ensures { λ r. ⌜ r ≡ is-set s ⌝ }
 {
@@ -75,12 +78,14 @@ fn comes_after<T: Keyed>(list: &[T], x: &T) -> bool
     }
 }
 
+// Whether a kind may open an entry, or end the sheet, after an entry of the kind `last`.
 fn follows(last: u8, kind: u8) -> bool
     ensures { λ r. ⌜ r ≡ follows last kind ⌝ }
 {
     (last <= kind) & ((kind == 4) | ((kind == 6) | ((kind == 7) | (kind == 8))))
 }
 
+// Whether the address, the set or the count in the word `n` is in range.
 fn fits(n: usize, word: u32) -> bool
     ensures { λ r. ⌜ r ≡ fits n word ⌝ }
 {
@@ -91,6 +96,7 @@ fn fits(n: usize, word: u32) -> bool
     }
 }
 
+// Whether there is a place for one more entry of the word's kind.
 fn room(draft: &Draft, word: u32) -> bool
     ensures { λ r. ⌜ r ≡ room (contents (now (draft .entry))) word ⌝ }
 {
@@ -117,13 +123,14 @@ fn fault(order: bool, range: bool, rise: bool) -> Option<Refusal>
     }
 }
 
-// What is wrong with the word `n` as a record's first or as the closing word.
+// What is wrong with the word `n` as an entry's first or as the closing word.
 pub fn opening(n: usize, last: u8, draft: &Draft, word: u32) -> Option<Refusal>
     ensures { λ r. ⌜ r ≡ opening n last (contents (now (draft .entry))) word ⌝ }
 {
     fault(follows(last, kind(word)), fits(n, word), room(draft, word))
 }
 
+// The ID in an entry's two words.
 fn id_of(word: u32, then: u32) -> [u8; 5]
     ensures { λ r. ⌜ r ≡ id-of word «then» ⌝ }
 {
@@ -164,6 +171,7 @@ fn pair_of(word: u32, then: u32) -> Pair
     }
 }
 
+// Whether an entry's second word has its 0, and a state that the entry may have.
 fn fits_end(word: u32, then: u32) -> bool
     ensures { λ r. ⌜ r ≡ fits-end word «then» ⌝ }
 {
@@ -171,6 +179,7 @@ fn fits_end(word: u32, then: u32) -> bool
     (third(then) == 0) & (fourth(then) <= most)
 }
 
+// Whether an entry comes after those of its kind.
 fn rises(draft: &Draft, word: u32, then: u32) -> bool
     ensures { λ r. ⌜ r ≡ rises (contents (now (draft .entry))) word «then» ⌝ }
 {
@@ -181,7 +190,7 @@ fn rises(draft: &Draft, word: u32, then: u32) -> bool
     }
 }
 
-// What is wrong with a record's second word.
+// What is wrong with an entry's second word.
 pub fn ending(draft: &Draft, word: u32, then: u32) -> Option<Refusal>
     ensures { λ r. ⌜ r ≡ ending (contents (now (draft .entry))) word «then» ⌝ }
 {
@@ -192,7 +201,7 @@ pub fn ending(draft: &Draft, word: u32, then: u32) -> Option<Refusal>
     )
 }
 
-// Enters the record of two words.
+// Enters the entry of two words.
 pub fn enter(draft: &mut Draft, word: u32, then: u32)
     requires room { ⌜ room (contents (now draft)) word ≡ true ⌝ }
     requires entry { ⌜ (kind word ≡ 8 → ⊥) ⌝ }

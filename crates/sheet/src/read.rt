@@ -49,22 +49,13 @@ fn header(u: u32, v: u32, w: u32) -> Result<Draft, SheetRefusal>
     ensures { λ r. ⌜ told r ≡ header u v w ⌝ }
 {
     if kind(u) != 1 {
-        return Err(SheetRefusal {
-            refusal: Refusal::SheetOrder,
-            word: 0,
-        });
+        return Err(SheetRefusal::order(0));
     }
     if kind(v) != 2 {
-        return Err(SheetRefusal {
-            refusal: Refusal::SheetOrder,
-            word: 1,
-        });
+        return Err(SheetRefusal::order(1));
     }
     if kind(w) != 3 {
-        return Err(SheetRefusal {
-            refusal: Refusal::SheetOrder,
-            word: 2,
-        });
+        return Err(SheetRefusal::order(2));
     }
     match Identity::new(identity_of(u, v, w), fourth(w)) {
         Ok(identity) => Ok(Draft {

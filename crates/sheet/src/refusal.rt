@@ -1,4 +1,5 @@
 //! Why a sheet is refused.
+ghost use mathlib.Core.Path.{_≡_};
 use message::Refusal;
 use std::fmt;
 
@@ -51,6 +52,16 @@ fn not_rising(place: Place) -> &'static str {
 }
 
 impl SheetRefusal {
+    // A kind out of order, at that word.
+    pub(crate) fn order(word: usize) -> SheetRefusal
+        ensures { λ r. ⌜ (r .refusal ≡ Refusal.SheetOrder) × (r .word ≡ word) ⌝ }
+    {
+        SheetRefusal {
+            refusal: Refusal::SheetOrder,
+            word,
+        }
+    }
+
     // What is wrong.
     fn sentence(self) -> &'static str {
         let place = place_of(self.word);

@@ -7,6 +7,7 @@ use layers::Member;
 use layers::Pair;
 use message::Row;
 
+/// Up to 64 rows.
 #[derive(Drop)]
 pub struct RowSlots {
     pub slots: [Row; 64],
@@ -15,6 +16,7 @@ pub struct RowSlots {
     ghost whole: { length slots ≡ 64 },
 }
 
+/// Up to 16 members.
 #[derive(Drop)]
 pub struct MemberSlots {
     pub slots: [Member; 16],
@@ -23,6 +25,7 @@ pub struct MemberSlots {
     ghost whole: { length slots ≡ 16 },
 }
 
+/// Up to 16 pairs.
 #[derive(Drop)]
 pub struct PairSlots {
     pub slots: [Pair; 16],

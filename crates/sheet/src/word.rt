@@ -16,12 +16,14 @@ pub fn word_at(bytes: &[u8], i: usize) -> u32
     a * 16_777_216 + (b * 65_536 + (c * 256 + d))
 }
 
+// The top four bits.
 pub fn kind(word: u32) -> u8
     ensures { λ r. ⌜ r ≡ kind word ⌝ }
 {
     (word / 268_435_456) as u8
 }
 
+// The four fields of seven bits, from the highest.
 pub fn first(word: u32) -> u8
     ensures { λ r. ⌜ r ≡ first word ⌝ }
 {
@@ -46,6 +48,7 @@ pub fn fourth(word: u32) -> u8
     (word % 128) as u8
 }
 
+// The 28 bits below the kind, as one number.
 pub fn amount(word: u32) -> u32
     ensures { λ r. ⌜ r ≡ amount word ⌝ }
 {

@@ -1,5 +1,12 @@
-//! What reading answers.
+//! What reading answers, and what the pile does that a sheet makes.
 use crate::writing::Writing;
+use host::Host;
+use host::table::TableHost;
+use layers::holding::HoldingHost;
+use layers::sets::SetsHost;
+use message::Refusal;
+use sheet::SheetRefusal;
+use sheet::refusal::SheetRefusalDisplay;
 use std::test::*;
 
 // Refused with that number, at that word.
@@ -189,4 +196,105 @@ fn the_last_collision() -> Result<(), Fail> {
     writing.entry(6, 1, 1, 0);
     writing.end();
     refused(&writing, 17, 129)
+}
+
+// Three rows of one set at Channel 1, the second on, and a row at the Group that is held on.
+fn organ() -> Writing {
+    let mut writing = Writing::new();
+    writing.entry(4, 0, 2, 0);
+    writing.entry(4, 0, 3, 1);
+    writing.entry(4, 0, 4, 0);
+    writing.entry(4, 0x7E, 5, 1);
+    writing.entry(6, 1, 2, 0);
+    writing.entry(6, 1, 3, 0);
+    writing.entry(6, 1, 4, 0);
+    writing.entry(7, 0x7E, 5, 0);
+    writing.end();
+    writing
+}
+
+#[test]
+fn an_organ() -> Result<(), Fail> {
+    let Ok(sheet) = organ().read() else {
+        return check(false).note("refused");
+    };
+    check_eq(sheet.identity.bytes, [0x7D, 0, 0, 0, 2, 2, 0, 0, 0, 0, 1])?;
+    check_eq(sheet.identity.block, 1)?;
+    let mut pile = sheet.into_pile();
+    check_eq(pile.rows().len(), 4)?;
+    check(!pile.is_fixed())?;
+    check(pile.puts_off(0, [0, 0, 0, 0, 2], [0, 0, 0, 0, 3])).note("of one set")?;
+    check(pile.switch(0, [0, 0, 0, 0, 2], true))?;
+    check(!pile.switch(0, [0, 0, 0, 0, 3], false)).note("off by now")?;
+    check(!pile.switch(0x7E, [0, 0, 0, 0, 5], false)).note("held")?;
+    check(pile.plug(1, [0, 0, 0, 0, 2]))
+}
+
+#[test]
+fn a_piano() -> Result<(), Fail> {
+    let mut writing = Writing::new();
+    writing.change(1, 0x2020_4000);
+    writing.change(2, 0x3000_0080);
+    writing.put(0x401F_8000);
+    writing.put(0x5020_4001);
+    writing.put(0x4FFF_8001);
+    writing.put(0x5020_4000);
+    writing.put(0x701F_8000);
+    writing.put(0x5020_4000);
+    writing.put(0x7FFF_8001);
+    writing.put(0x5020_4000);
+    writing.put(0x8000_000B);
+    let Ok(sheet) = writing.read() else {
+        return check(false).note("refused");
+    };
+    let mut pile = sheet.into_pile();
+    check(!pile.switch(0, [0x7E, 0, 0, 1, 1], false)).note("held on")?;
+    check(!pile.switch(0x7F, [0x7E, 0, 1, 1, 1], true)).note("held off")
+}
+
+// The sentence of a refusal.
+fn says(rt: &LibcRuntime, refusal: Refusal, word: usize, sentence: &str) -> Result<(), Fail> {
+    let refusal = SheetRefusal { refusal, word };
+    let text = format!(rt.alloc(), "{refusal}")?;
+    check(text.as_str() == sentence).note("another sentence")
+}
+
+#[test]
+fn sentences(rt: LibcRuntime) -> Result<(), Fail> {
+    says(
+        &rt,
+        Refusal::SheetLength,
+        0,
+        "word 0: a sheet has 16 to 784 bytes, in whole words",
+    )?;
+    says(
+        &rt,
+        Refusal::SheetOrder,
+        2,
+        "word 2: the first three words are of kinds 1, 2 and 3",
+    )?;
+    says(
+        &rt,
+        Refusal::FieldOutOfRange,
+        2,
+        "word 2: Function Block neither 0 to 31 nor 127",
+    )?;
+    says(
+        &rt,
+        Refusal::NotRising,
+        18,
+        "word 18: row, member or held pair not above the one before it",
+    )?;
+    says(
+        &rt,
+        Refusal::NotRising,
+        45,
+        "word 45: one row, member or held pair too many",
+    )?;
+    says(
+        &rt,
+        Refusal::SetCollision,
+        5,
+        "word 5: row on in the same set and at the same address as a row before it",
+    )
 }

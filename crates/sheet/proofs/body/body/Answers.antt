@@ -9,7 +9,7 @@ use Rattle.sheet.specs.Contents.{Contents}
 use Rattle.sheet.specs.Drafts.{contents}
 use Rattle.sheet.specs.Reading.{refused, body}
 use Rattle.sheet.proofs.Plain.{words-count}
-use Rattle.sheet.proofs.Turns.{body-none, body-refused, body-closed, body-cut, body-extra, body-bad, body-more, opening-room}
+use Rattle.sheet.proofs.Turns.{body-none, body-refused, body-closed, body-cut, body-extra, body-bad, body-more, opening-room, told-as}
 use Rattle.sheet.proofs.body.body.Needs as need
 
 pub enter-requires : need.enter-requires
@@ -28,7 +28,8 @@ pub returns-then-n-total : need.returns-then-n-total
 returns-then-n-total c =
     let ws = words (c .args .bytes .now) in
     let m = words-count (c .args .bytes .now) in
-    sym (body-extra ws (c .loop-n .n) (c .loop-n .last) (contents (c .loop-n .draft)) (c .word-at-word .result) (c .word-at-word .ensures) (omega arith) (sym (c .in-rest .ensures tt)) (sym (c .kind .ensures) ∙ c .if-kind-eq8 .taken))
+    told-as (c .order .result) SheetOrder (c .loop-n .n + 1) (c .order .ensures)
+    ∙ sym (body-extra ws (c .loop-n .n) (c .loop-n .last) (contents (c .loop-n .draft)) (c .word-at-word .result) (c .word-at-word .ensures) (omega arith) (sym (c .in-rest .ensures tt)) (sym (c .kind .ensures) ∙ c .if-kind-eq8 .taken))
     ∙ c .loop-n .inv .0
 
 pub returns-then-kind-eq8 : need.returns-then-kind-eq8
@@ -44,7 +45,8 @@ returns-then-n-total-2 c =
     let m = words-count (c .args .bytes .now) in
     let k = c .kind .ensures in
     let e : length (c .args .bytes .now) / 4 ≡ c .loop-n .n + 1 = omega arith in
-    ap (refused SheetOrder) e
+    told-as (c .order-then-n-total-2 .result) SheetOrder _ (c .order-then-n-total-2 .ensures)
+    ∙ ap (refused SheetOrder) e
     ∙ sym (body-cut ws (c .loop-n .n) (c .loop-n .last) (contents (c .loop-n .draft)) (c .word-at-word .result) (c .word-at-word .ensures) (omega arith) (sym (c .in-rest .ensures tt)) (λ h. c .if-kind-eq8 .left (k ∙ h)))
     ∙ c .loop-n .inv .0
 
@@ -74,4 +76,4 @@ returns c =
     let ws = words (c .args .bytes .now) in
     let m = words-count (c .args .bytes .now) in
     let e : length (c .args .bytes .now) / 4 ≡ c .loop-n .n = omega arith in
-    ap (refused SheetOrder) e ∙ sym (body-none ws (c .loop-n .n) (c .loop-n .last) (contents (c .loop-n .draft)) (omega arith)) ∙ c .loop-n .inv .0
+    told-as (c .order-2 .result) SheetOrder _ (c .order-2 .ensures) ∙ ap (refused SheetOrder) e ∙ sym (body-none ws (c .loop-n .n) (c .loop-n .last) (contents (c .loop-n .draft)) (omega arith)) ∙ c .loop-n .inv .0
