@@ -34,7 +34,7 @@ fn all_in_range<T: Ranged + Copy>(list: &[T]) -> bool
 }
 
 /// Refuses entries of which one is out of range, and else entries that do not rise strictly or are more than 16.
-pub fn judge<T: Keyed + Ranged + Copy>(list: &[T]) -> Result<(), Refusal>
+pub(crate) fn judge<T: Keyed + Ranged + Copy>(list: &[T]) -> Result<(), Refusal>
     ensures { λ r. ⌜ r ≡ judged (every (T·Ranged .ranged) (now (list .entry))) (in-order (T·Keyed .key) (now (list .entry))) ⌝ }
 {
     if !all_in_range(list) {
@@ -47,7 +47,7 @@ pub fn judge<T: Keyed + Ranged + Copy>(list: &[T]) -> Result<(), Refusal>
 }
 
 /// Puts the entries into the first slots.
-pub fn lay<T: Copy>(list: &[T], slots: &mut [T])
+pub(crate) fn lay<T: Copy>(list: &[T], slots: &mut [T])
     requires { ⌜ length (now list) ≤ length (now slots) ⌝ }
     ensures front { λ _. ⌜ take (length (now (list .entry))) (now (slots .exit)) ≡ now (list .entry) ⌝ }
     ensures whole { λ _. ⌜ length (now (slots .exit)) ≡ length (now (slots .entry)) ⌝ }
@@ -56,7 +56,7 @@ pub fn lay<T: Copy>(list: &[T], slots: &mut [T])
 }
 
 /// Whether two IDs have the same bytes.
-pub fn same_id(one: [u8; 5], other: [u8; 5]) -> bool
+pub(crate) fn same_id(one: [u8; 5], other: [u8; 5]) -> bool
     ensures { λ r. ⌜ r ≡ sameBytes one other ⌝ }
 {
     one == other

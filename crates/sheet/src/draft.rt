@@ -124,7 +124,7 @@ fn fault(order: bool, range: bool, rise: bool) -> Option<Refusal>
 }
 
 // What is wrong with the word `n` as an entry's first or as the closing word.
-pub fn opening(n: usize, last: u8, draft: &Draft, word: u32) -> Option<Refusal>
+pub(crate) fn opening(n: usize, last: u8, draft: &Draft, word: u32) -> Option<Refusal>
     ensures { λ r. ⌜ r ≡ opening n last (contents (now (draft .entry))) word ⌝ }
 {
     fault(follows(last, kind(word)), fits(n, word), room(draft, word))
@@ -191,7 +191,7 @@ fn rises(draft: &Draft, word: u32, then: u32) -> bool
 }
 
 // What is wrong with an entry's second word.
-pub fn ending(draft: &Draft, word: u32, then: u32) -> Option<Refusal>
+pub(crate) fn ending(draft: &Draft, word: u32, then: u32) -> Option<Refusal>
     ensures { λ r. ⌜ r ≡ ending (contents (now (draft .entry))) word «then» ⌝ }
 {
     fault(
@@ -202,7 +202,7 @@ pub fn ending(draft: &Draft, word: u32, then: u32) -> Option<Refusal>
 }
 
 // Enters the entry of two words.
-pub fn enter(draft: &mut Draft, word: u32, then: u32)
+pub(crate) fn enter(draft: &mut Draft, word: u32, then: u32)
     requires room { ⌜ room (contents (now draft)) word ≡ true ⌝ }
     requires entry { ⌜ (kind word ≡ 8 → ⊥) ⌝ }
     ensures { λ _. ⌜ contents (now (draft .exit)) ≡ entered (contents (now (draft .entry))) word «then» ⌝ }

@@ -35,7 +35,7 @@ pub struct PairSlots {
 }
 
 impl RowSlots {
-    pub fn none() -> RowSlots
+    pub(crate) fn none() -> RowSlots
         ensures { λ r. ⌜ take (r .count) (r .slots) ≡ [] ⌝ }
     {
         let blank = Row {
@@ -49,13 +49,13 @@ impl RowSlots {
         }
     }
 
-    pub fn listed(&self) -> &[Row]
+    pub(crate) fn listed(&self) -> &[Row]
         ensures { λ r. ⌜ now r ≡ take (now (self .entry) .count) (now (self .entry) .slots) ⌝ }
     {
         &self.slots[0..self.count]
     }
 
-    pub fn push(&mut self, row: Row)
+    pub(crate) fn push(&mut self, row: Row)
         requires { ⌜ length (take (now self .count) (now self .slots)) < 64 ⌝ }
         ensures { λ _. ⌜ take (now (self .exit) .count) (now (self .exit) .slots) ≡ take (now (self .entry) .count) (now (self .entry) .slots) ++ row ∷ [] ⌝ }
     {
@@ -65,7 +65,7 @@ impl RowSlots {
 }
 
 impl MemberSlots {
-    pub fn none() -> MemberSlots
+    pub(crate) fn none() -> MemberSlots
         ensures { λ r. ⌜ take (r .count) (r .slots) ≡ [] ⌝ }
     {
         MemberSlots {
@@ -74,13 +74,13 @@ impl MemberSlots {
         }
     }
 
-    pub fn listed(&self) -> &[Member]
+    pub(crate) fn listed(&self) -> &[Member]
         ensures { λ r. ⌜ now r ≡ take (now (self .entry) .count) (now (self .entry) .slots) ⌝ }
     {
         &self.slots[0..self.count]
     }
 
-    pub fn push(&mut self, member: Member)
+    pub(crate) fn push(&mut self, member: Member)
         requires { ⌜ length (take (now self .count) (now self .slots)) < 16 ⌝ }
         ensures { λ _. ⌜ take (now (self .exit) .count) (now (self .exit) .slots) ≡ take (now (self .entry) .count) (now (self .entry) .slots) ++ member ∷ [] ⌝ }
     {
@@ -90,7 +90,7 @@ impl MemberSlots {
 }
 
 impl PairSlots {
-    pub fn none() -> PairSlots
+    pub(crate) fn none() -> PairSlots
         ensures { λ r. ⌜ take (r .count) (r .slots) ≡ [] ⌝ }
     {
         PairSlots {
@@ -102,13 +102,13 @@ impl PairSlots {
         }
     }
 
-    pub fn listed(&self) -> &[Pair]
+    pub(crate) fn listed(&self) -> &[Pair]
         ensures { λ r. ⌜ now r ≡ take (now (self .entry) .count) (now (self .entry) .slots) ⌝ }
     {
         &self.slots[0..self.count]
     }
 
-    pub fn push(&mut self, pair: Pair)
+    pub(crate) fn push(&mut self, pair: Pair)
         requires { ⌜ length (take (now self .count) (now self .slots)) < 16 ⌝ }
         ensures { λ _. ⌜ take (now (self .exit) .count) (now (self .exit) .slots) ≡ take (now (self .entry) .count) (now (self .entry) .slots) ++ pair ∷ [] ⌝ }
     {

@@ -55,7 +55,7 @@ fn pairs_of(pairs: &[Pair]) -> Pairs
 }
 
 /// The sheet that a draft has become.
-pub fn make(draft: &Draft) -> Sheet
+pub(crate) fn make(draft: &Draft) -> Sheet
     requires { ⌜ Valid (contents (now draft)) ⌝ }
     ensures { λ r. ⌜ holds r ≡ contents (now (draft .entry)) ⌝ }
 {
