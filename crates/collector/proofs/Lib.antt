@@ -1,3 +1,3 @@
 mod Runs
-mod Meanings
+pub mod Meanings
 mod Tellings
