@@ -1,7 +1,8 @@
 -- The order of keys is strict and total, and `cmp` on arrays of numbers answers by it.
-use Rattle.std.proofs.Common.{◌≡◌, ℕ, ◌<◌, true, false, eqb, ◌⊎◌, List, [], ◌∷◌, Ordering, Less, Equal, Greater, sym, refl, ⊎_elim, arith}
-use Rattle.std.specs.Cmp.Lexicographic.{Lex}
-use Rattle.std.specs.Ordering.{MatchOrdering}
+use Rattle.std.proofs.Common.{◌≡◌, ℕ, ◌<◌, true, false, eqb, List, [], ◌∷◌, Ordering, Less, Equal, Greater, refl, ⊎_elim, arith}
+use Rattle.std.specs.Cmp.Lexicographic.{slice_cmp}
+use Rattle.std.specs.Ordering.{MatchOrdering, nat_cmp, ordering_then}
+use Rattle.std.proofs.lemmas.Cmp.{ranked}
 use Rattle.std.proofs.lemmas.Bool.Decides.{nat_tests}
 use Rattle.std.proofs.lemmas.Bool.{and_parts, eqb-true, cases_Bool, both_ways}
 use Rattle.rising.specs.Order.{Key, before, Before, same_key}
@@ -30,17 +31,26 @@ before_same [] (y ∷ ys) p q = grind arith
 before_same (x ∷ xs) [] p q = grind arith
 before_same (x ∷ xs) (y ∷ ys) p q = let ih = before_same xs ys in grind (arith, nat_tests)
 
-pub ranked_from_lex : (xs ys : List ℕ) (r : Ordering) → Lex (λ a b k. MatchOrdering k (a < b) (a ≡ b) (b < a)) xs ys r → MatchOrdering r (Before xs ys) (xs ≡ ys) (Before ys xs)
-ranked_from_lex [] [] r h = grind arith
-ranked_from_lex [] (y ∷ ys) r h = grind arith
-ranked_from_lex (x ∷ xs) [] r h = grind arith
-ranked_from_lex (x ∷ xs) (y ∷ ys) r h = let ih = ranked_from_lex xs ys in grind (arith, nat_tests)
-
 -- equal fronts leave the answer to what follows
 pub ranked_cons : (x y : ℕ) (xs ys : List ℕ) (r : Ordering) → x ≡ y → MatchOrdering r (Before xs ys) (xs ≡ ys) (Before ys xs) → MatchOrdering r (Before (x ∷ xs) (y ∷ ys)) (◌≡◌ {A = List ℕ} (x ∷ xs) (y ∷ ys)) (Before (y ∷ ys) (x ∷ xs))
 ranked_cons x y xs ys Less e h = grind (arith, nat_tests)
 ranked_cons x y xs ys Equal e h = cc
 ranked_cons x y xs ys Greater e h = grind (arith, nat_tests)
+
+-- the first numbers decide where they differ
+ranked_step : (x y : ℕ) (xs ys : List ℕ) (o r : Ordering) → MatchOrdering o (x < y) (x ≡ y) (y < x) → MatchOrdering r (Before xs ys) (xs ≡ ys) (Before ys xs) → MatchOrdering (ordering_then o r) (Before (x ∷ xs) (y ∷ ys)) (◌≡◌ {A = List ℕ} (x ∷ xs) (y ∷ ys)) (Before (y ∷ ys) (x ∷ xs))
+ranked_step x y xs ys Less r h g = grind (arith, nat_tests)
+ranked_step x y xs ys Equal r h g = ranked_cons x y xs ys r h g
+ranked_step x y xs ys Greater r h g = grind (arith, nat_tests)
+
+ranked_lists : (xs ys : List ℕ) → MatchOrdering (slice_cmp nat_cmp xs ys) (Before xs ys) (xs ≡ ys) (Before ys xs)
+ranked_lists [] [] = refl
+ranked_lists [] (y ∷ ys) = refl
+ranked_lists (x ∷ xs) [] = refl
+ranked_lists (x ∷ xs) (y ∷ ys) = ranked_step x y xs ys (nat_cmp x y) (slice_cmp nat_cmp xs ys) (ranked x y (nat_cmp x y) refl) (ranked_lists xs ys)
+
+pub ranked_from_lex : (xs ys : List ℕ) (r : Ordering) → r ≡ slice_cmp nat_cmp xs ys → MatchOrdering r (Before xs ys) (xs ≡ ys) (Before ys xs)
+ranked_from_lex xs ys r e = rw e (ranked_lists xs ys)
 
 -- any answer but `Less`
 pub not_before : (x y : Key) (r : Ordering) → MatchOrdering r (Before x y) (x ≡ y) (Before y x) → (r ≡ Less → ⊥) → before x y ≡ false

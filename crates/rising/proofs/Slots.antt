@@ -1,8 +1,8 @@
 -- What an edit of the slots in use leaves in all of them.
-use Rattle.std.proofs.Common.{◌≡◌, ℕ, suc, ◌+◌, ◌-◌, ◌<◌, ◌≤◌, ltb, List, [], ◌∷◌, ◌++◌, length, get_or, take, drop, set, sym, refl, ap, ◌∙◌, append_assoc, arith}
+use Rattle.std.proofs.Common.{◌≡◌, ℕ, suc, ◌+◌, ◌-◌, ◌<◌, ◌≤◌, ltb, List, [], ◌∷◌, ◌++◌, length, take, drop, set, sym, refl, ap, ◌∙◌, append_assoc, arith}
 use borrow.Rule.Slice.PartMut.{put_mid}
 use Rattle.std.specs.List.{insert, remove}
-use Rattle.std.proofs.lemmas.List.{length-append, length-take, length-take-le, length-drop, length_push, take_all, take_at, drop_at, take-take, drop-drop, take_more_set, take-set-le, drop-set-lt, drop-append-le, get_or-take}
+use Rattle.std.proofs.lemmas.List.{length-append, length-take-le, length-drop, length_push, take_all, take_at, drop_at, take-take, drop-drop, take_more_set, take-set-le, drop-set-lt, drop-append-le, get_or-take}
 use Rattle.std.proofs.lemmas.List.Edits.{length-insert, length-remove}
 use Rattle.std.proofs.lemmas.Slice.{between_is}
 use Rattle.std.proofs.lemmas.Bool.{cond_below, cond_above, cond_both}

@@ -1,4 +1,6 @@
 //! Lists in rising order of a key, for any record that has one: find, enter and remove.
+#![tactic(auto)]
+
 ghost use Rattle.std.specs.Prelude.{◌≡◌, ℕ, ◌+◌, ◌<◌, ◌≤◌, List, [], ◌∷◌, ◌++◌, length, take, drop, is_some, Some, None, MatchOption, MatchResult, slice_index_or};
 ghost use Rattle.std.specs.Ordering.{MatchOrdering};
 ghost use Rattle.rising.specs.Order.{Key, Before};
@@ -27,7 +29,7 @@ impl Keyed for u32 {
 
 // Where the key of `x` stands in the list, or else where it would: halving, since the list rises.
 fn search<T: Keyed>(list: &[T], x: &T) -> Result<usize, usize>
-    ensures { MatchResult result (Stands key x.now list.now) (λ i. (i ≤ length list.now) × (Rising key list.now → Gap key x.now list.now i)) }
+    ensures { MatchResult result (Stands T.key x.now list.now) (λ i. (i ≤ length list.now) × (Rising T.key list.now → Gap T.key x.now list.now i)) }
 {
     let mut low = 0;
     let mut high = list.len();
@@ -45,17 +47,17 @@ fn search<T: Keyed>(list: &[T], x: &T) -> Result<usize, usize>
 /// The place of the record with the key of `x`. What is found has that key in any list; that nothing is found says that it
 /// is not there only where the list rises.
 pub fn find<T: Keyed>(list: &[T], x: &T) -> Option<usize>
-    ensures place { MatchOption result (Rising key list.now → Absent key x.now list.now) (Stands key x.now list.now) }
-    ensures only { Rising key list.now → (i j : ℕ) → Stands key x.now list.now i → Stands key x.now list.now j → i ≡ j }
-    ensures some { Rising key list.now → is_some result ≡ holds key x.now list.now }
-    ensures content { MatchOption result (Rising key list.now → found key x.now list.now ≡ None) (λ i. Rising key list.now → (d : T) → found key x.now list.now ≡ Some (slice_index_or list.now i d)) }
+    ensures place { MatchOption result (Rising T.key list.now → Absent T.key x.now list.now) (Stands T.key x.now list.now) }
+    ensures only { Rising T.key list.now → (i j : ℕ) → Stands T.key x.now list.now i → Stands T.key x.now list.now j → i ≡ j }
+    ensures some { Rising T.key list.now → is_some result ≡ holds T.key x.now list.now }
+    ensures content { MatchOption result (Rising T.key list.now → found T.key x.now list.now ≡ None) (λ i. Rising T.key list.now → (d : T) → found T.key x.now list.now ≡ Some (slice_index_or list.now i d)) }
 {
     search(list, x).ok()
 }
 
 /// Whether the list rises strictly.
 pub fn rises<T: Keyed>(list: &[T]) -> bool
-    ensures { result ≡ rising key list.now }
+    ensures { result ≡ rising T.key list.now }
 {
     let mut i = 1;
     while i < list.len() {
@@ -71,12 +73,12 @@ pub fn rises<T: Keyed>(list: &[T]) -> bool
 /// full, or its key is there, nothing changes; a count beyond the slots counts as full.
 pub fn enter<T: Keyed + Copy>(slots: &mut [T], count: usize, x: T) -> usize
     ensures whole { KeptOrPut x slots.old count result slots.new }
-    ensures value { Rising key (take count slots.old) → take result slots.new ≡ entering (length slots.old) key x (take count slots.old) }
+    ensures value { Rising T.key (take count slots.old) → take result slots.new ≡ entering (length slots.old) T.key x (take count slots.old) }
     ensures rest { drop result slots.new ≡ drop result slots.old }
     ensures fits { count ≤ length slots.old → result ≤ length slots.new }
     ensures long { length slots.new ≡ length slots.old }
-    ensures still { Rising key (take count slots.old) → Rising key (take result slots.new) }
-    ensures laws { Rising key (take count slots.old) → Enters key (length slots.old) x (take count slots.old) (take result slots.new) }
+    ensures still { Rising T.key (take count slots.old) → Rising T.key (take result slots.new) }
+    ensures laws { Rising T.key (take count slots.old) → Enters T.key (length slots.old) x (take count slots.old) (take result slots.new) }
 {
     if count >= slots.len() {
         return count;
@@ -94,13 +96,13 @@ pub fn enter<T: Keyed + Copy>(slots: &mut [T], count: usize, x: T) -> usize
 /// Removes the record with the key of `x` from the first `count` slots, and tells how many are in use from then on. Where
 /// the key is not there, nothing changes, nor at a count beyond the slots. The record lies in the slot that came free.
 pub fn remove<T: Keyed + Copy>(slots: &mut [T], count: usize, x: &T) -> usize
-    ensures whole { KeptOrTaken key x.now slots.old count result slots.new }
-    ensures value { count ≤ length slots.old → Rising key (take count slots.old) → take result slots.new ≡ without key x.now (take count slots.old) }
-    ensures freed { count ≤ length slots.old → Rising key (take count slots.old) → drop result slots.new ≡ having key x.now (take count slots.old) ++ drop count slots.old }
+    ensures whole { KeptOrTaken T.key x.now slots.old count result slots.new }
+    ensures value { count ≤ length slots.old → Rising T.key (take count slots.old) → take result slots.new ≡ without T.key x.now (take count slots.old) }
+    ensures freed { count ≤ length slots.old → Rising T.key (take count slots.old) → drop result slots.new ≡ having T.key x.now (take count slots.old) ++ drop count slots.old }
     ensures fits { count ≤ length slots.old → result ≤ length slots.new }
     ensures long { length slots.new ≡ length slots.old }
-    ensures still { Rising key (take count slots.old) → Rising key (take result slots.new) }
-    ensures laws { count ≤ length slots.old → Rising key (take count slots.old) → Leaves key x.now (take count slots.old) (take result slots.new) }
+    ensures still { Rising T.key (take count slots.old) → Rising T.key (take result slots.new) }
+    ensures laws { count ≤ length slots.old → Rising T.key (take count slots.old) → Leaves T.key x.now (take count slots.old) (take result slots.new) }
 {
     if count > slots.len() {
         return count;

@@ -1,4 +1,4 @@
-use Rattle.std.proofs.Common.{◌≡◌, ◌+◌, ◌<◌, ◌≤◌, length, take, drop, sym, refl, ap, ◌∙◌, subst, inl, inr, arith}
+use Rattle.std.proofs.Common.{◌≡◌, ◌+◌, ◌<◌, ◌≤◌, length, take, drop, sym, refl, ◌∙◌, subst, inl, inr, arith}
 use native.Mathlib.Nat.{sub-zero}
 use Rattle.std.proofs.lemmas.List.{length-take-le}
 use Rattle.rising.specs.Lists.{Rising, Gap, Stands, entering}
@@ -53,7 +53,7 @@ returns-in-Err g c =
     let told : (i ≤ length (take n s)) × (Rising key (take n s) → Gap key x (take n s) i) = rw sub-zero at c.in-Err.ensures in
     let l : n < length s = omega (arith, c.if-count-slots.false) in
     let w : i ≤ n = omega (arith, told.0, length-take-le n s (omega arith)) in
-    let put : Put x s n (n + 1) _ i = (w, l, refl, slots_put s n i x c.rotate-right.new.self l w c.rotate-right.ensures.after) in
+    let put : Put x s n (n + 1) _ i = (w, l, refl, slots_put s n i x c.rotate_right.new.self l w c.rotate_right.ensures.after) in
     let e : Rising key (take n s) → take (n + 1) _ ≡ entering (length s) key x (take n s) = λ up. take_put key x s n i (n + 1) _ put ∙ enters_here key x s n i l (told.1 up) in
     let laws : Rising key (take n s) → Enters key (length s) x (take n s) _ = λ up. subst (λ zs. Enters key (length s) x (take n s) zs) (sym (e up)) (enters_lawful key (length s) x (take n s) up) in
     let long = length_put key x s n i (n + 1) _ put in

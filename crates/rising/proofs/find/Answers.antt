@@ -1,5 +1,3 @@
-use Rattle.rising.specs.Order.{Key}
-use Rattle.rising.specs.Lists.{holds, found}
 use Rattle.rising.proofs.Lists.{stands_once}
 use Rattle.rising.proofs.Found.{found_by, holds_by, place_by}
 use Rattle.rising.proofs.find.Goals as goal

@@ -5,8 +5,8 @@ use Rattle.message.specs.Rows.{all_ranged}
 use Rattle.message.proofs.Parts.{no_row}
 use Rattle.host.proofs.rows.all_in_range.Goals as goal
 
-pub returns-then-not-in-range : goal.returns-then-not-in-range
-returns-then-not-in-range c =
+pub returns-then-not-in_range : goal.returns-then-not-in_range
+returns-then-not-in_range c =
     let e = at_drop_more all_ranged c.args.rows.now c.loop-row.row-index no_row (omega arith) in
     grind (arith, nat_tests)
 

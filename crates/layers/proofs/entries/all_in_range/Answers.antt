@@ -5,8 +5,8 @@ use Rattle.layers.specs.Lists.{every}
 use Rattle.layers.proofs.Places.{every_more}
 use Rattle.layers.proofs.entries.all_in_range.Goals as goal
 
-pub returns-then-not-in-range : goal.returns-then-not-in-range
-returns-then-not-in-range g c =
+pub returns-then-not-in_range : goal.returns-then-not-in_range
+returns-then-not-in_range g c =
     let e = every_more g.T.Ranged.ranged c.args.list.now c.loop-k.k c.index-list-k.result (omega arith) c.index-list-k.is in
     grind (arith, nat_tests)
 

@@ -10,13 +10,13 @@ pub loop-k-init : goal.loop-k-init
 loop-k-init g c =
     ap (any (λ x. rival (members_of c.args.members.now) c.args.address c.args.id x && bytes_eq c.args.other x.id)) c.rows-rows.ensures
 
-pub returns-then-is-named : goal.returns-then-is-named
-returns-then-is-named g c =
-    sym (any_here (λ x. rival (members_of c.args.members.now) c.args.address c.args.id x && bytes_eq c.args.other x.id) c.rows-rows.result.now c.loop-k.k (row 0 [] false) _ (omega arith) c.loop-k.invariant (sym c.if-is-named.ensures))
+pub returns-then-is_named : goal.returns-then-is_named
+returns-then-is_named g c =
+    sym (any_here (λ x. rival (members_of c.args.members.now) c.args.address c.args.id x && bytes_eq c.args.other x.id) c.rows-rows.result.now c.loop-k.k (row 0 [] false) _ (omega arith) c.loop-k.invariant (sym c.if-is_named.ensures))
 
 pub loop-k-preserved : goal.loop-k-preserved
 loop-k-preserved g c =
-    any_passed (λ x. rival (members_of c.args.members.now) c.args.address c.args.id x && bytes_eq c.args.other x.id) c.rows-rows.result.now c.loop-k.k (row 0 [] false) _ (omega arith) c.loop-k.invariant (sym c.if-is-named.ensures)
+    any_passed (λ x. rival (members_of c.args.members.now) c.args.address c.args.id x && bytes_eq c.args.other x.id) c.rows-rows.result.now c.loop-k.k (row 0 [] false) _ (omega arith) c.loop-k.invariant (sym c.if-is_named.ensures)
 
 pub returns : goal.returns
 returns g c =

@@ -6,7 +6,7 @@ use Rattle.layers.specs.Clearing.{Cleared}
 use Rattle.layers.specs.Sets.{rival}
 use Rattle.layers.proofs.Setting.{no_row, cleared_start, cleared_length, cleared_pass, cleared_turn}
 use Rattle.layers.proofs.sets.put_off.Goals as goal
-use Rattle.layers.proofs.sets.put_off.Goals.{then-is-rival, else-is-rival}
+use Rattle.layers.proofs.sets.put_off.Goals.{then-is_rival, else-is_rival}
 
 pub loop-k-init : goal.loop-k-init
 loop-k-init g c = (cleared_start _ _ _ _ _ _ c.requires, g.B.Host.keeps_itself c.args.below.now)
@@ -25,19 +25,19 @@ loop-k-preserved g c =
     let k = c.loop-k.k in
     let e = c.rows.ensures in
     let lk : k < length (g.B.Host.listing b) = omega (arith, ap length c.rows-count.ensures) in
-    let told : c.is-rival.result ≡ rival ms a i (get_or (g.B.Host.listing m) k no_row) =
-    c.is-rival.ensures ∙ ap (λ (l : List Row). rival ms a i (get_or l k no_row)) e in
+    let told : c.is_rival.result ≡ rival ms a i (get_or (g.B.Host.listing m) k no_row) =
+    c.is_rival.ensures ∙ ap (λ (l : List Row). rival ms a i (get_or l k no_row)) e in
     let T : g.row.B.Denot → Type 0 =
     λ z. Cleared ms (g.B.Host.listing b) (g.B.Host.consents b) (g.B.Host.fixed b) a i (k + 1) (g.B.Host.listing z) (g.B.Host.consents z) (g.B.Host.fixed z) × g.B.Host.keeps b z in
-    elim c.if-is-rival.branch [
-      | then-is-rival w ↦
+    elim c.if-is_rival.branch [
+      | then-is_rival w ↦
           let z = w.switch.new.self in
           let does =
           subst (λ (l : List Row). Switched (g.B.Host.listing m) (g.B.Host.consents m) (g.B.Host.fixed m) a (get_or l k no_row).id false (g.B.Host.listing z) (g.B.Host.consents z) (g.B.Host.fixed z) w.switch.result) e w.switch.ensures.does in
           subst T (sym w.below-is) (
-            cleared_turn ms _ _ _ a i k _ _ _ c.loop-k.invariant.0 no_row _ _ _ _ lk (g.B.Host.lawful m).sound.order c.requires (sym told ∙ w.if-is-rival.true) does,
+            cleared_turn ms _ _ _ a i k _ _ _ c.loop-k.invariant.0 no_row _ _ _ _ lk (g.B.Host.lawful m).sound.order c.requires (sym told ∙ w.if-is_rival.true) does,
             g.B.Host.keeps_on b m z c.loop-k.invariant.1 w.switch.ensures.same,
           )
-      | else-is-rival w ↦
-          subst T (sym w.below-is) (cleared_pass ms _ _ _ a i k _ _ _ c.loop-k.invariant.0 no_row lk (sym told ∙ w.if-is-rival.false), c.loop-k.invariant.1)
+      | else-is_rival w ↦
+          subst T (sym w.below-is) (cleared_pass ms _ _ _ a i k _ _ _ c.loop-k.invariant.0 no_row lk (sym told ∙ w.if-is_rival.false), c.loop-k.invariant.1)
     ]

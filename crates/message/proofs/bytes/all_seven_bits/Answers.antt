@@ -4,8 +4,8 @@ use Rattle.std.proofs.lemmas.Bool.Decides.{nat_tests}
 use Rattle.message.specs.Bytes.{sevens}
 use Rattle.message.proofs.bytes.all_seven_bits.Goals as goal
 
-pub returns-then-not-has-seven-bits : goal.returns-then-not-has-seven-bits
-returns-then-not-has-seven-bits c =
+pub returns-then-not-has_seven_bits : goal.returns-then-not-has_seven_bits
+returns-then-not-has_seven_bits c =
     let e = at_drop_more sevens c.args.bytes.now c.loop-byte.byte-index 0 (omega arith) in
     grind (arith, nat_tests)
 

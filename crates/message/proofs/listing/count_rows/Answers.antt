@@ -4,19 +4,19 @@ use Rattle.message.specs.Rows.{part}
 use Rattle.message.specs.Sending.{ids_of}
 use Rattle.message.proofs.Parts.{no_row, part_taken, part_passed}
 use Rattle.message.proofs.listing.count_rows.Goals as goal
-use Rattle.message.proofs.listing.count_rows.Goals.{then-stands-at, else-stands-at}
+use Rattle.message.proofs.listing.count_rows.Goals.{then-stands_at, else-stands_at}
 
 pub loop-k-preserved : goal.loop-k-preserved
 loop-k-preserved c =
-    elim c.if-stands-at.branch [
-      | then-stands-at w ↦
+    elim c.if-stands_at.branch [
+      | then-stands_at w ↦
           let rows = c.args.rows.now in
-          let e = part_taken c.args.address c.args.on rows c.loop-k.k (omega arith) (sym w.if-stands-at.ensures.value) in
-          let five = w.if-stands-at.ensures.five in
+          let e = part_taken c.args.address c.args.on rows c.loop-k.k (omega arith) (sym w.if-stands_at.ensures.value) in
+          let five = w.if-stands_at.ensures.five in
           let n = length-append (get_or rows c.loop-k.k no_row).id (ids_of (part c.args.address c.args.on (drop (c.loop-k.k + 1) rows))) in
           (omega (arith, ap length e, w.count-is), omega (arith, ap (λ l. length (ids_of l)) e, five, n, w.count-is), omega (arith, w.count-is))
-      | else-stands-at w ↦
-          let e = part_passed c.args.address c.args.on c.args.rows.now c.loop-k.k (omega arith) (sym w.if-stands-at.ensures.value) in
+      | else-stands_at w ↦
+          let e = part_passed c.args.address c.args.on c.args.rows.now c.loop-k.k (omega arith) (sym w.if-stands_at.ensures.value) in
           (omega (arith, ap length e, w.count-is), omega (arith, ap (λ l. length (ids_of l)) e, w.count-is), omega (arith, w.count-is))
     ]
 

@@ -9,4 +9,4 @@ together : (n : ℕ) (rows : List Row) → n ≡ length rows → (n % 0x80 ∷ n
 together n rows e = rw e
 
 pub returns : goal.returns
-returns c = as_bytes (together _ _ c.count-rows-count.ensures.value) (and_then c.put-at.ensures c.put-ids.ensures)
+returns c = as_bytes (together _ _ c.count_rows-count.ensures.value) (and_then c.put-at.ensures c.put_ids.ensures)

@@ -4,16 +4,16 @@ use Rattle.message.specs.Messages.{framed}
 use Rattle.message.proofs.Framing.{unframed, well_framed, number_fits, header-low}
 use Rattle.message.proofs.reading.read.Goals as goal
 
-pub returns-in-default : goal.returns-in-default
-returns-in-default c =
+pub returns-in_default : goal.returns-in_default
+returns-in_default c =
     record {
       shape = tt;
       value = unframed c.args.message.now
-          (elim c.in-default.branch [
-            | goal.in-default-via-then-message-lt6 w ↦ grind (arith, nat_tests)
-            | goal.in-default-via-else-message-lt6+in-240·+in-126·+in-default· w ↦ grind (arith, nat_tests)
-            | goal.in-default-via-else-message-lt6+in-240·+in-default· w ↦ grind (arith, nat_tests)
-            | goal.in-default-via-else-message-lt6+in-default· w ↦ grind (arith, nat_tests)
+          (elim c.in_default.branch [
+            | goal.in_default-via-then-message-lt6 w ↦ grind (arith, nat_tests)
+            | goal.in_default-via-else-message-lt6+in-240·+in-126·+in-default· w ↦ grind (arith, nat_tests)
+            | goal.in_default-via-else-message-lt6+in-240·+in-default· w ↦ grind (arith, nat_tests)
+            | goal.in_default-via-else-message-lt6+in-default· w ↦ grind (arith, nat_tests)
           ]);
     }
 
@@ -22,13 +22,13 @@ returns c =
     let f : framed c.args.message.now ≡ true = grind (arith, nat_tests) in
     let bs = c.args.message.now in
     record {
-      value = well_framed bs f _ _ _ c.muid-number.ensures c.muid-number-2.ensures c.content.ensures.value;
+      value = well_framed bs f _ _ _ c.muid_number.ensures c.muid_number-2.ensures c.content.ensures.value;
       shape = record {
         address_low = header-low bs 1 f (omega arith);
         sub_low = header-low bs 3 f (omega arith);
         version_low = header-low bs 4 f (omega arith);
-        source_fits = number_fits bs 0 _ f (omega arith) c.muid-number.ensures;
-        destination_fits = number_fits bs 4 _ f (omega arith) c.muid-number-2.ensures;
+        source_fits = number_fits bs 0 _ f (omega arith) c.muid_number.ensures;
+        destination_fits = number_fits bs 4 _ f (omega arith) c.muid_number-2.ensures;
         parts = c.content.ensures.shape;
       };
     }

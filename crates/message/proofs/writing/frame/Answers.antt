@@ -13,11 +13,11 @@ returns c =
     let m = sends c.args.own.number c.args.address c.args.sub c.args.to.number (first ++ second) in
     written-whole (omega (arith, length-encode m, length-append first second))
     (as_bytes (whole_parts c.args.sub c.args.address c.args.own.number c.args.to.number first second)
-    (and_then c.put-header-at.ensures (and_then c.put-at.ensures (and_then c.put-at-2.ensures c.put.ensures))))
+    (and_then c.put_header-at.ensures (and_then c.put-at.ensures (and_then c.put-at-2.ensures c.put.ensures))))
 
-pub returns-then-not-has-room : goal.returns-then-not-has-room
-returns-then-not-has-room c =
+pub returns-then-not-has_room : goal.returns-then-not-has_room
+returns-then-not-has_room c =
     let first = c.args.body.0.now in
     let second = c.args.body.1.now in
     let m = sends c.args.own.number c.args.address c.args.sub c.args.to.number (first ++ second) in
-    written_not _ (omega (arith, length-encode m, length-append first second)) (sym c.if-not-has-room.ensures)
+    written_not _ (omega (arith, length-encode m, length-append first second)) (sym c.if-not-has_room.ensures)

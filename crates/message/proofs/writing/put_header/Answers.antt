@@ -9,5 +9,5 @@ together sub sub' address own to source destination p q r = rw (p, q, r) refl
 
 pub returns : goal.returns
 returns c =
-    as_bytes (together _ _ _ _ _ _ _ c.byte.ensures c.muid-bytes.ensures c.muid-bytes-2.ensures)
+    as_bytes (together _ _ _ _ _ _ _ c.byte.ensures c.muid_bytes.ensures c.muid_bytes-2.ensures)
     (and_then c.put-at.ensures (and_then c.put-at-2.ensures c.put.ensures))

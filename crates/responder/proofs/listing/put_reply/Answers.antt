@@ -7,11 +7,11 @@ use Rattle.responder.proofs.listing.put_reply.Goals as goal
 pub returns-in-Ok : goal.returns-in-Ok
 returns-in-Ok c =
     put_to (encode (profile_list c.args.own.number c.args.to.number c.args.address.byte c.args.rows.now)) c.args.answer.now c.args.at
-    c.in-Ok.end c.write-profile-reply.new.out
+    c.in-Ok.end c.write_profile_reply.new.out
     (reply_short c.args.own.number c.args.to.number c.args.address.byte c.args.rows.now c.requires.sound) c.requires.room c.in-Ok.ensures
 
 pub returns-in-Err : goal.returns-in-Err
 returns-in-Err c =
     absurd (not_refused (encode (profile_list c.args.own.number c.args.to.number c.args.address.byte c.args.rows.now)) c.args.answer.now c.args.at
-    c.in-Err.field-0 c.write-profile-reply.new.out
+    c.in-Err.field-0 c.write_profile_reply.new.out
     (reply_short c.args.own.number c.args.to.number c.args.address.byte c.args.rows.now c.requires.sound) c.requires.room c.in-Err.ensures)

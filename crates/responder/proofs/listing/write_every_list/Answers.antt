@@ -12,8 +12,8 @@ loop-channel-init c =
     left-none c.args.answer.now 0 (replies_from c.args.own.number c.args.to.number c.args.rows.now places)
     (let room = c.requires.room in omega (arith, replies_fit c.args.own.number c.args.to.number c.args.rows.now c.requires.sound))
 
-pub put-if-any-at-requires : goal.put-if-any-at-requires
-put-if-any-at-requires c =
+pub put_if_any-at-requires : goal.put_if_any-at-requires
+put_if_any-at-requires c =
     let own = c.args.own.number in
     let to = c.args.to.number in
     let l = c.args.rows.now in
@@ -24,23 +24,23 @@ put-if-any-at-requires c =
 pub loop-channel-preserved : goal.loop-channel-preserved
 loop-channel-preserved c =
     let e = replies_step c.args.own.number c.args.to.number c.args.rows.now c.loop-channel.channel (omega arith) in
-    left_more _ _ (left_as refl refl e c.loop-channel.invariant) c.put-if-any-at.ensures
+    left_more _ _ (left_as refl refl e c.loop-channel.invariant) c.put_if_any-at.ensures
 
-pub put-if-any-at-requires-2 : goal.put-if-any-at-requires-2
-put-if-any-at-requires-2 c =
+pub put_if_any-at-requires-2 : goal.put_if_any-at-requires-2
+put_if_any-at-requires-2 c =
     let own = c.args.own.number in
     let to = c.args.to.number in
     let l = c.args.rows.now in
     let e = replies_group own to l c.loop-channel.channel (omega arith) in
     record { sound = c.requires.sound; room = omega (arith, c.loop-channel.invariant.room, ap length e, length-append (reply_there own to l 0x7E) (encode (profile_list own to 0x7F l) ++ [])) }
 
-pub put-reply-requires : goal.put-reply-requires
-put-reply-requires c =
+pub put_reply-requires : goal.put_reply-requires
+put_reply-requires c =
     let own = c.args.own.number in
     let to = c.args.to.number in
     let l = c.args.rows.now in
     let e = replies_group own to l c.loop-channel.channel (omega arith) in
-    let p = left_more _ _ (left_as refl refl e c.loop-channel.invariant) c.put-if-any-at-2.ensures in
+    let p = left_more _ _ (left_as refl refl e c.loop-channel.invariant) c.put_if_any-at-2.ensures in
     record { sound = c.requires.sound; room = omega (arith, p.room, length-append (encode (profile_list own to 0x7F l)) []) }
 
 pub returns : goal.returns
@@ -49,7 +49,7 @@ returns c =
     let to = c.args.to.number in
     let l = c.args.rows.now in
     let e = replies_group own to l c.loop-channel.channel (omega arith) in
-    let p = left_more _ _ (left_as refl refl e c.loop-channel.invariant) c.put-if-any-at-2.ensures in
+    let p = left_more _ _ (left_as refl refl e c.loop-channel.invariant) c.put_if_any-at-2.ensures in
     let room = c.requires.room in
-    last_reply own to l c.args.answer.now c.put-if-any-at-2.new.answer c.put-reply.new.answer c.put-if-any-at-2.result c.put-reply.result p
-    (omega (arith, replies_fit own to l c.requires.sound)) c.put-reply.ensures
+    last_reply own to l c.args.answer.now c.put_if_any-at-2.new.answer c.put_reply.new.answer c.put_if_any-at-2.result c.put_reply.result p
+    (omega (arith, replies_fit own to l c.requires.sound)) c.put_reply.ensures

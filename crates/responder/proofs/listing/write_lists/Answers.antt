@@ -8,10 +8,10 @@ use Rattle.responder.proofs.listing.write_lists.Goals as goal
 
 pub returns-then-address-eq127 : goal.returns-then-address-eq127
 returns-then-address-eq127 c =
-    as_bytes (ap (lists_bytes c.args.own.number c.args.to.number c.args.rows.now) (sym c.if-address-eq127.true)) c.write-every-list.ensures
+    as_bytes (ap (lists_bytes c.args.own.number c.args.to.number c.args.rows.now) (sym c.if-address-eq127.true)) c.write_every_list.ensures
 
-pub put-reply-requires : goal.put-reply-requires
-put-reply-requires c =
+pub put_reply-requires : goal.put_reply-requires
+put_reply-requires c =
     record {
       sound = c.requires.sound;
       room = let room = c.requires.room in omega (arith, reply_short c.args.own.number c.args.to.number c.args.address.byte c.args.rows.now c.requires.sound);
@@ -19,5 +19,5 @@ put-reply-requires c =
 
 pub returns : goal.returns
 returns c =
-    reply_put c.args.own.number c.args.to.number c.args.rows.now c.args.address.byte c.args.answer.now 0 c.put-reply.result
-    c.put-reply.new.answer (ne_eqb c.args.address.byte 0x7F c.if-address-eq127.false) c.put-reply.ensures
+    reply_put c.args.own.number c.args.to.number c.args.rows.now c.args.address.byte c.args.answer.now 0 c.put_reply.result
+    c.put_reply.new.answer (ne_eqb c.args.address.byte 0x7F c.if-address-eq127.false) c.put_reply.ensures

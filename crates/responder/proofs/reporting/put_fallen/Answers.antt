@@ -9,8 +9,8 @@ use Rattle.responder.proofs.reporting.put_fallen.Goals as goal
 pub loop-k-init : goal.loop-k-init
 loop-k-init c = left-none _ 0 _ (let h = c.requires.room in omega arith)
 
-pub put-if-fallen-at-requires : goal.put-if-fallen-at-requires
-put-if-fallen-at-requires c =
+pub put_if_fallen-at-requires : goal.put_if_fallen-at-requires
+put_if_fallen-at-requires c =
     let own = c.args.own.number in
     let a = c.args.named.0.byte in
     let i = c.args.named.1.bytes in
@@ -26,7 +26,7 @@ put-if-fallen-at-requires c =
 pub loop-k-preserved : goal.loop-k-preserved
 loop-k-preserved c =
     let e = falls_more c.args.own.number c.args.named.0.byte c.args.named.1.bytes c.args.rows.now c.args.before.now c.loop-k.k (omega arith) in
-    left_more _ _ (left_as refl refl e c.loop-k.invariant) c.put-if-fallen-at.ensures
+    left_more _ _ (left_as refl refl e c.loop-k.invariant) c.put_if_fallen-at.ensures
 
 pub returns : goal.returns
 returns c =

@@ -5,13 +5,13 @@ use Rattle.host.specs.Tables.{listed}
 use Rattle.host.proofs.Makings.{exact}
 use Rattle.host.proofs.fixed.Fixed.from_rows.Goals as goal
 
-pub returns-in-err-rows : goal.returns-in-err-rows
-returns-in-err-rows c =
-    let p = err_from_is_err_and c.from-residual.result c.from-residual.ensures.1 in
-    record { made = rw (p.1, p.2) c.in-err-rows.ensures; exact = exact c.args.rows.now }
+pub returns-in_err-rows : goal.returns-in_err-rows
+returns-in_err-rows c =
+    let p = err_from_is_err_and c.from_residual.result c.from_residual.ensures.1 in
+    record { made = rw (p.1, p.2) c.in_err-rows.ensures; exact = exact c.args.rows.now }
 
-pub invariant-of-result : goal.invariant-of-result
-invariant-of-result c =
-    let h = c.in-ok-rows.ensures in
-    let s : Sound (listed c.in-ok-rows.rows) = subst (λ ys. Sound ys) (sym h.1) ((exact c.args.rows.now).faultless h.0) in
+pub invariant_of-result : goal.invariant_of-result
+invariant_of-result c =
+    let h = c.in_ok-rows.ensures in
+    let s : Sound (listed c.in_ok-rows.rows) = subst (λ ys. Sound ys) (sym h.1) ((exact c.args.rows.now).faultless h.0) in
     (h.2, (h.3, (s.each, (s.ranges, (s.order, tt)))))

@@ -14,5 +14,5 @@ returns-in-None c =
     let l = c.args.rows.now in
     let none = sym c.in-None.ensures in
     let few = ((exact l).faultless none).few in
-    let e = c.copy-from-slice.ensures.after in
-    (none, front l c.copy-from-slice.new.self _ e, few, whole l c.copy-from-slice.new.self _ (length l - 0) e (omega arith) refl few)
+    let e = c.copy_from_slice.ensures.after in
+    (none, front l c.copy_from_slice.new.self _ e, few, whole l c.copy_from_slice.new.self _ (length l - 0) e (omega arith) refl few)

@@ -6,8 +6,8 @@ use Rattle.host.specs.Lawfulness.{sound-listed}
 use Rattle.host.proofs.Keeping.{sound_plugged}
 use Rattle.host.proofs.table.TableHost.plug.Goals as goal
 
-pub invariant-of-self : goal.invariant-of-self
-invariant-of-self c =
+pub invariant_of-self : goal.invariant_of-self
+invariant_of-self c =
     let t = c.args.self.now in
     let l = listed t.rows in
     let goes : plugs l false c.args.address c.args.id ≡ true = sym c.takes-fits.ensures ∙ c.if-fits.true in

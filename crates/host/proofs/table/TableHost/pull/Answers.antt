@@ -7,8 +7,8 @@ use Rattle.host.proofs.Keeping.{sound-without, slot_state}
 use Rattle.host.proofs.Calls.{table_keeps, table_loses}
 use Rattle.host.proofs.table.TableHost.pull.Goals as goal
 
-pub invariant-of-self : goal.invariant-of-self
-invariant-of-self c =
+pub invariant_of-self : goal.invariant_of-self
+invariant_of-self c =
     let t = c.args.self.now in
     let was = sound-listed t.rows t.within t.each t.ranges t.order in
     let s : Sound (listed c.remove.new.self) = subst (λ ys. Sound ys) (sym c.remove.ensures.rows) (sound-without (listed t.rows) was c.args.address c.args.id) in
@@ -20,8 +20,8 @@ returns-then-leaves c =
     let l = listed t.rows in
     let h = c.in-Some.ensures.place in
     let state = slot_state t.rows c.in-Some.k h.0 (look l c.args.address c.args.id) (h.1 blank).1 in
-    let told = c.is-off-leaves.ensures ∙ ap (λ (o : Option Bool). differs o true) (sym state) in
-    record { does = table_loses l c.args.address c.args.id c.is-off-leaves.result told (listed c.remove.new.self) c.if-leaves.true c.remove.ensures.rows; same = tt }
+    let told = c.is_off-leaves.ensures ∙ ap (λ (o : Option Bool). differs o true) (sym state) in
+    record { does = table_loses l c.args.address c.args.id c.is_off-leaves.result told (listed c.remove.new.self) c.if-leaves.true c.remove.ensures.rows; same = tt }
 
 pub returns-else-leaves : goal.returns-else-leaves
 returns-else-leaves c =
@@ -29,5 +29,5 @@ returns-else-leaves c =
     let l = listed t.rows in
     let h = c.in-Some.ensures.place in
     let state = slot_state t.rows c.in-Some.k h.0 (look l c.args.address c.args.id) (h.1 blank).1 in
-    let told = c.is-off-leaves.ensures ∙ ap (λ (o : Option Bool). differs o true) (sym state) in
-    record { does = table_keeps l c.args.address c.args.id c.is-off-leaves.result told c.if-leaves.false; same = tt }
+    let told = c.is_off-leaves.ensures ∙ ap (λ (o : Option Bool). differs o true) (sym state) in
+    record { does = table_keeps l c.args.address c.args.id c.is_off-leaves.result told c.if-leaves.false; same = tt }

@@ -8,8 +8,8 @@ use Rattle.host.proofs.Keeping.{sound_map, slot_state, turned_listed}
 use Rattle.host.proofs.Calls.{table_stays, table_moves}
 use Rattle.host.proofs.table.TableHost.switch.Goals as goal
 
-pub invariant-of-self : goal.invariant-of-self
-invariant-of-self c =
+pub invariant_of-self : goal.invariant_of-self
+invariant_of-self c =
     let t = c.args.self.now in
     let l = listed t.rows in
     let h = c.in-Some.ensures.place in
@@ -27,8 +27,8 @@ returns-then-moves c =
     let h = c.in-Some.ensures.place in
     let e = turned_listed t.rows c.in-Some.k h.0 c.turn.new.self t.order c.args.address c.args.id c.args.on (h.1 blank).0 c.turn.ensures.slots c.turn.ensures.count in
     let state = slot_state t.rows c.in-Some.k h.0 (look l c.args.address c.args.id) (h.1 blank).1 in
-    let told = c.is-other-moves.ensures ∙ ap (λ (o : Option Bool). differs o c.args.on) (sym state) in
-    record { does = table_moves l c.args.address c.args.id c.args.on c.is-other-moves.result told (listed c.turn.new.self) c.if-moves.true e; same = tt }
+    let told = c.is_other-moves.ensures ∙ ap (λ (o : Option Bool). differs o c.args.on) (sym state) in
+    record { does = table_moves l c.args.address c.args.id c.args.on c.is_other-moves.result told (listed c.turn.new.self) c.if-moves.true e; same = tt }
 
 pub returns-else-moves : goal.returns-else-moves
 returns-else-moves c =
@@ -36,5 +36,5 @@ returns-else-moves c =
     let l = listed t.rows in
     let h = c.in-Some.ensures.place in
     let state = slot_state t.rows c.in-Some.k h.0 (look l c.args.address c.args.id) (h.1 blank).1 in
-    let told = c.is-other-moves.ensures ∙ ap (λ (o : Option Bool). differs o c.args.on) (sym state) in
-    record { does = table_stays l c.args.address c.args.id c.args.on c.is-other-moves.result told c.if-moves.false; same = tt }
+    let told = c.is_other-moves.ensures ∙ ap (λ (o : Option Bool). differs o c.args.on) (sym state) in
+    record { does = table_stays l c.args.address c.args.id c.args.on c.is_other-moves.result told c.if-moves.false; same = tt }

@@ -8,13 +8,13 @@ none = record { id = []; set = 0 }
 
 pub returns-in-Some : goal.returns-in-Some
 returns-in-Some c =
-    let s = c.as-slice-list.ensures in
+    let s = c.as_slice-list.ensures in
     let f = c.in-Some.ensures in (
-      rw (← s.value) (set_found c.as-slice-list.result.now c.args.id 0 ∙ ap set_in (f.content s.up none)),
-      set_positive c.as-slice-list.result.now c.in-Some.k none s.fit f.place.0,
+      rw (← s.value) (set_found c.as_slice-list.result.now c.args.id 0 ∙ ap set_in (f.content s.up none)),
+      set_positive c.as_slice-list.result.now c.in-Some.k none s.fit f.place.0,
     )
 
 pub returns-in-None : goal.returns-in-None
 returns-in-None c =
-    let s = c.as-slice-list.ensures in
-    rw (← s.value) (set_found c.as-slice-list.result.now c.args.id 0 ∙ ap set_in (c.in-None.ensures.content s.up))
+    let s = c.as_slice-list.ensures in
+    rw (← s.value) (set_found c.as_slice-list.result.now c.args.id 0 ∙ ap set_in (c.in-None.ensures.content s.up))

@@ -5,16 +5,16 @@ use Rattle.layers.proofs.pairs.Pairs.from_slice.Goals as goal
 
 pub lay-requires : goal.lay-requires
 lay-requires c =
-    let j = accepted pair_ranged pair_key c.args.pairs.now c.judge.result c.in-ok-judge.field-0 c.judge.ensures c.in-ok-judge.was in
+    let j = accepted pair_ranged pair_key c.args.pairs.now c.judge.result c.in_ok-judge.field-0 c.judge.ensures c.in_ok-judge.was in
     omega (arith, j.few)
 
-pub invariant-of-result : goal.invariant-of-result
-invariant-of-result c =
-    let j = accepted pair_ranged pair_key c.args.pairs.now c.judge.result c.in-ok-judge.field-0 c.judge.ensures c.in-ok-judge.was in
+pub invariant_of-result : goal.invariant_of-result
+invariant_of-result c =
+    let j = accepted pair_ranged pair_key c.args.pairs.now c.judge.result c.in_ok-judge.field-0 c.judge.ensures c.in_ok-judge.was in
     let e = c.lay.ensures.front in
     (j.few, (c.lay.ensures.whole, (rw e j.up, (rw e j.fit, tt))))
 
 pub returns : goal.returns
 returns c =
-    let j = accepted pair_ranged pair_key c.args.pairs.now c.judge.result c.in-ok-judge.field-0 c.judge.ensures c.in-ok-judge.was in
+    let j = accepted pair_ranged pair_key c.args.pairs.now c.judge.result c.in_ok-judge.field-0 c.judge.ensures c.in_ok-judge.was in
     rw (j.fit, j.ordered) c.lay.ensures.front

@@ -8,10 +8,10 @@ pub returns-then-on : goal.returns-then-on
 returns-then-on g c =
     let ms = members_of c.args.self.now.members in
     let b = c.args.self.now.below in
-    let did = c.switch-on.ensures.does in
+    let did = c.switch_on.ensures.does in
     record {
       does = rw c.if-on.true did;
-      same = (refl, c.switch-on.ensures.same);
+      same = (refl, c.switch_on.ensures.same);
       one = turn_one ms (g.B.Host.listing b) (g.B.Host.consents b) c.args.address c.args.id true _ (g.B.Host.lawful b).sound.order did.rows;
     }
 

@@ -3,8 +3,8 @@ use Rattle.numbers.specs.Device.{has, forgotten}
 use Rattle.numbers.proofs.Device.{has-without, usable-without, forgotten-gone, forgotten-others}
 use Rattle.numbers.proofs.value.Numbers.forget.Goals as goal
 
-pub invariant-of-self : goal.invariant-of-self
-invariant-of-self c =
+pub invariant_of-self : goal.invariant_of-self
+invariant_of-self c =
     let m = c.args.self.now in
     let xs = take m.count m.others in
     let done = c.remove-count.ensures in

@@ -4,12 +4,12 @@ use Rattle.numbers.specs.Device.{other, has, noted}
 use Rattle.numbers.proofs.Device.{has-entering, usable-entering, noted-has, noted-others}
 use Rattle.numbers.proofs.value.Numbers.note.Goals as goal
 
-pub invariant-of-self : goal.invariant-of-self
-invariant-of-self c =
+pub invariant_of-self : goal.invariant_of-self
+invariant_of-self c =
     let m = c.args.self.now in
     let n = c.args.number in
     let xs = take m.count m.others in
-    let goes : other m.own n ≡ true = sym c.if-is-other.ensures in
+    let goes : other m.own n ≡ true = sym c.if-is_other.ensures in
     let fit = and_parts (ltb n 268435200) (not (eqb n m.own)) goes in
     let done = c.enter-count.ensures in
     let e = done.value m.up in
@@ -27,8 +27,8 @@ invariant-of-self c =
       ),
     )
 
-pub returns-then-is-other : goal.returns-then-is-other
-returns-then-is-other c =
+pub returns-then-is_other : goal.returns-then-is_other
+returns-then-is_other c =
     let m = c.args.self.now in
     let n = c.args.number in
     let xs = take m.count m.others in

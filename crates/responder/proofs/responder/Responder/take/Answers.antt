@@ -5,22 +5,22 @@ use Rattle.responder.specs.Models.{state_of}
 use Rattle.responder.proofs.Switches.{taken_as, refused_by, acted}
 use Rattle.responder.proofs.responder.Responder.take.Goals as goal
 
-pub returns-in-err-action : goal.returns-in-err-action
-returns-in-err-action g c =
+pub returns-in_err-action : goal.returns-in_err-action
+returns-in_err-action g c =
     let me = c.args.self.now in
-    let p = err_from_is_err_and c.from-residual.result c.from-residual.ensures.1 in
+    let p = err_from_is_err_and c.from_residual.result c.from_residual.ensures.1 in
     let e = taken_as me.identity (own_of me.numbers) c.own-own.result.number (listed_of me.numbers) (g.P.Host.listing me.host) c.rows.result.now c.args.draw
-    (length c.args.answer.now) c.args.message.now (Err c.in-err-action.field-0.0) c.own-own.ensures c.rows.ensures (omega arith) (g.P.Host.lawful me.host).sound
-    (c.in-err-action.ensures me.identity (listed_of me.numbers) c.args.draw) in
-    let r = refused_by g.P.Host.listing g.P.Host.consents g.P.Host.fixed g.P.Host.keeps _ (state_of me) c.in-err-action.field-0.0 p.0 c.from-residual.result c.args.answer.now e p.1 p.2 in
+    (length c.args.answer.now) c.args.message.now (Err c.in_err-action.field-0.0) c.own-own.ensures c.rows.ensures (omega arith) (g.P.Host.lawful me.host).sound
+    (c.in_err-action.ensures me.identity (listed_of me.numbers) c.args.draw) in
+    let r = refused_by g.P.Host.listing g.P.Host.consents g.P.Host.fixed g.P.Host.keeps _ (state_of me) c.in_err-action.field-0.0 p.0 c.from_residual.result c.args.answer.now e p.1 p.2 in
     record { does = r.0; rest = r.1; same = refl }
 
 pub returns : goal.returns
 returns g c =
     let me = c.args.self.now in
     let e = taken_as me.identity (own_of me.numbers) c.own-own.result.number (listed_of me.numbers) (g.P.Host.listing me.host) c.rows.result.now c.args.draw
-    (length c.args.answer.now) c.args.message.now (Ok c.in-ok-action.action) c.own-own.ensures c.rows.ensures (omega arith) (g.P.Host.lawful me.host).sound
-    (c.in-ok-action.ensures me.identity (listed_of me.numbers) c.args.draw) in
+    (length c.args.answer.now) c.args.message.now (Ok c.in_ok-action.action) c.own-own.ensures c.rows.ensures (omega arith) (g.P.Host.lawful me.host).sound
+    (c.in_ok-action.ensures me.identity (listed_of me.numbers) c.args.draw) in
     record {
       does = acted g.P.Host.listing g.P.Host.consents g.P.Host.fixed g.P.Host.keeps _ _ _ _ _ e c.act.ensures.does;
       rest = c.act.ensures.rest;
