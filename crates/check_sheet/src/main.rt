@@ -1,4 +1,6 @@
 //! Reads a sheet on standard input and tells the instrument in words, or why the sheet is refused, with status 1.
+#![tactic(auto)]
+
 mod instrument;
 mod words;
 

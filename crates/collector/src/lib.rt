@@ -1,4 +1,6 @@
 //! The bytes of a cable, collected into whole System Exclusive messages.
+#![tactic(auto)]
+
 ghost use Rattle.std.specs.Prelude.{◌≡◌, None};
 
 mod feeding;

@@ -1,4 +1,6 @@
 //! A maker's own host, as an example of what one has to show.
+#![tactic(auto)]
+
 pub mod keyboard;
 
 pub use keyboard::{Keyboard, Sound};

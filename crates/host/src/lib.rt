@@ -1,4 +1,6 @@
 //! Hosts: the instrument's side, which knows its profiles and consents to changes.
+#![tactic(auto)]
+
 pub mod finding;
 pub mod fixed;
 pub mod host;

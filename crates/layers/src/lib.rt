@@ -1,4 +1,6 @@
 //! Layers over a host. Each is a host itself, so that any pile of them is one.
+#![tactic(auto)]
+
 mod entries;
 pub mod holding;
 pub mod member;

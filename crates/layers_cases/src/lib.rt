@@ -1,4 +1,6 @@
 //! Cases of layers, over a desk with three profiles.
+#![tactic(auto)]
+
 pub mod desk;
 pub mod law;
 

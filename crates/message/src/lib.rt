@@ -1,4 +1,6 @@
 //! Messages of MIDI Capability Inquiry: what they are made of, how they are read and how they are written.
+#![tactic(auto)]
+
 pub mod address;
 pub mod bytes;
 pub mod identity;

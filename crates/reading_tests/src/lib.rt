@@ -1,4 +1,6 @@
 //! Reads what is no message, and what is hardly one: each is taken or refused as the format says.
+#![tactic(auto)]
+
 #[cfg(test)]
 mod tests {
     use message::{Content, read};

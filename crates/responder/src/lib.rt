@@ -1,4 +1,6 @@
 //! The responder: start, announce and take, over any host.
+#![tactic(auto)]
+
 mod action;
 mod calls;
 mod deciding;

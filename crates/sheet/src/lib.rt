@@ -1,5 +1,7 @@
 //! Sheets: what a maker writes becomes an instrument. A sheet is words of 32 bits; it holds identity, rows, members of sets
 //! and held pairs, and makes the pile of hosts.
+#![tactic(auto)]
+
 mod body;
 mod collisions;
 mod draft;

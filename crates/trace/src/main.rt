@@ -1,4 +1,6 @@
 //! Tells what went over a MIDI cable: a line for each whole System Exclusive message, and counts at the end.
+#![tactic(auto)]
+
 mod counts;
 mod told;
 mod tracer;

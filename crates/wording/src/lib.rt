@@ -1,4 +1,6 @@
 //! Messages of MIDI-CI in words that a support engineer reads.
+#![tactic(auto)]
+
 mod holds;
 mod names;
 mod parts;
