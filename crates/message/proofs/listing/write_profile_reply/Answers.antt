@@ -7,7 +7,7 @@ use Rattle.message.specs.declared.sub_id.SubId.{SubId}
 use Rattle.message.proofs.Encoding.{length-encode, whole_parts}
 use Rattle.message.proofs.Places.{and_then, as_bytes, written-whole, written_not, too_long}
 use Rattle.message.proofs.listing.write_profile_reply.Goals as goal
-use Rattle.message.proofs.listing.write_profile_reply.Goals.{then-on-gt-MOST_ROWS-via-then-on-gt-MOST_ROWS, then-on-gt-MOST_ROWS-via-else-on-gt-MOST-ROWS+then-off-on}
+use Rattle.message.proofs.listing.write_profile_reply.Goals.{then-on-gt-MOST_ROWS-via-then-on-gt-MOST_ROWS, then-on-gt-MOST_ROWS-via-else-on-gt-MOST_ROWS+then-off-on}
 
 pub returns : goal.returns
 returns c =
@@ -35,6 +35,6 @@ returns-then-on-gt-MOST_ROWS c =
     let long : 98 < c.count_rows-on.result + c.count_rows-off.result =
     elim c.then-on-gt-MOST_ROWS.branch [
       | then-on-gt-MOST_ROWS-via-then-on-gt-MOST_ROWS w ↦ omega arith
-      | then-on-gt-MOST_ROWS-via-else-on-gt-MOST-ROWS+then-off-on w ↦ omega arith
+      | then-on-gt-MOST_ROWS-via-else-on-gt-MOST_ROWS+then-off-on w ↦ omega arith
     ] in
     written_not (length (encode m)) refl (too_long (length (encode m)) c.args.out.now c.args.at (omega (arith, long, length-encode m, n, c.count_rows-on.ensures.ids, c.count_rows-off.ensures.ids)))

@@ -11,9 +11,9 @@ returns-in_default c =
       value = unframed c.args.message.now
           (elim c.in_default.branch [
             | goal.in_default-via-then-message-lt6 w ↦ grind (arith, nat_tests)
-            | goal.in_default-via-else-message-lt6+in-240·+in-126·+in-default· w ↦ grind (arith, nat_tests)
-            | goal.in_default-via-else-message-lt6+in-240·+in-default· w ↦ grind (arith, nat_tests)
-            | goal.in_default-via-else-message-lt6+in-default· w ↦ grind (arith, nat_tests)
+            | goal.in_default-via-else-message-lt6+in-240+in-126+in_default-1 w ↦ grind (arith, nat_tests)
+            | goal.in_default-via-else-message-lt6+in-240+in_default-1 w ↦ grind (arith, nat_tests)
+            | goal.in_default-via-else-message-lt6+in_default-1 w ↦ grind (arith, nat_tests)
           ]);
     }
 

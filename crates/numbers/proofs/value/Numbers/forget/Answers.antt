@@ -10,13 +10,14 @@ invariant_of-self c =
     let done = c.remove-count.ensures in
     let room : m.count ≤ length m.others = omega (arith, m.within) in
     let e = done.value room m.up in
-    let w = done.fits room in (
-      omega arith,
-      (
-        done.still m.up,
-        (m.usable, (rw e (usable-without _ xs m.fit), (rw e (has-without m.own _ xs m.apart), tt))),
-      ),
-    )
+    let w = done.fits room in
+    record {
+      within = omega arith;
+      up = done.still m.up;
+      usable = m.usable;
+      fit = rw e (usable-without _ xs m.fit);
+      apart = rw e (has-without m.own _ xs m.apart);
+    }
 
 pub returns : goal.returns
 returns c =

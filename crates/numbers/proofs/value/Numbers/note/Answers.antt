@@ -13,19 +13,14 @@ invariant_of-self c =
     let fit = and_parts (ltb n 268435200) (not (eqb n m.own)) goes in
     let done = c.enter-count.ensures in
     let e = done.value m.up in
-    let w = done.fits (omega (arith, m.within)) in (
-      omega arith,
-      (
-        done.still m.up,
-        (
-          m.usable,
-          (
-            rw e (usable-entering _ n xs fit.0 m.fit),
-            (rw e (has-entering _ m.own n xs (not-true _ fit.1) m.apart), tt),
-          ),
-        ),
-      ),
-    )
+    let w = done.fits (omega (arith, m.within)) in
+    record {
+      within = omega arith;
+      up = done.still m.up;
+      usable = m.usable;
+      fit = rw e (usable-entering _ n xs fit.0 m.fit);
+      apart = rw e (has-entering _ m.own n xs (not-true _ fit.1) m.apart);
+    }
 
 pub returns-then-is_other : goal.returns-then-is_other
 returns-then-is_other c =
