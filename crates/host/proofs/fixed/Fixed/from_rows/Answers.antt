@@ -14,4 +14,4 @@ pub invariant_of-result : goal.invariant_of-result
 invariant_of-result c =
     let h = c.in_ok-rows.ensures in
     let s : Sound (listed c.in_ok-rows.rows) = subst (λ ys. Sound ys) (sym h.1) ((exact c.args.rows.now).faultless h.0) in
-    (h.2, (h.3, (s.each, (s.ranges, (s.order, tt)))))
+    record { within = h.2; whole = h.3; each = s.each; ranges = s.ranges; order = s.order }

@@ -13,4 +13,4 @@ invariant_of-self c =
     let goes : plugs l false c.args.address c.args.id ≡ true = sym c.takes-fits.ensures ∙ c.if-fits.true in
     let was = sound-listed t.rows t.within t.each t.ranges t.order in
     let s : Sound (listed c.enter.new.self) = subst (λ ys. Sound ys) (sym c.enter.ensures.rows) (sound_plugged l was c.args.address c.args.id goes) in
-    (c.enter.ensures.within, (c.enter.ensures.whole, (s.each, (s.ranges, (s.order, tt)))))
+    record { within = c.enter.ensures.within; whole = c.enter.ensures.whole; each = s.each; ranges = s.ranges; order = s.order }

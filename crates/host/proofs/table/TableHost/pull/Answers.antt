@@ -12,7 +12,7 @@ invariant_of-self c =
     let t = c.args.self.now in
     let was = sound-listed t.rows t.within t.each t.ranges t.order in
     let s : Sound (listed c.remove.new.self) = subst (λ ys. Sound ys) (sym c.remove.ensures.rows) (sound-without (listed t.rows) was c.args.address c.args.id) in
-    (c.remove.ensures.within, (c.remove.ensures.whole, (s.each, (s.ranges, (s.order, tt)))))
+    record { within = c.remove.ensures.within; whole = c.remove.ensures.whole; each = s.each; ranges = s.ranges; order = s.order }
 
 pub returns-then-leaves : goal.returns-then-leaves
 returns-then-leaves c =

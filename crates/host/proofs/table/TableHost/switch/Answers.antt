@@ -18,7 +18,7 @@ invariant_of-self c =
     let s : Sound (listed c.turn.new.self) =
     subst (λ ys. Sound ys) (sym e) (sound_map (turned c.args.address c.args.id c.args.on (λ _. false)) (λ r. refl) (λ r. refl) l was) in
     let whole : length c.turn.new.self.slots ≡ 64 = ap length c.turn.ensures.slots ∙ length-set t.rows.slots c.in-Some.k _ ∙ t.whole in
-    (omega (arith, t.within, c.turn.ensures.count), (whole, (s.each, (s.ranges, (s.order, tt)))))
+    record { within = omega (arith, t.within, c.turn.ensures.count); whole = whole; each = s.each; ranges = s.ranges; order = s.order }
 
 pub returns-then-moves : goal.returns-then-moves
 returns-then-moves c =

@@ -12,7 +12,7 @@ pub invariant_of-result : goal.invariant_of-result
 invariant_of-result c =
     let j = accepted member_ranged member_key c.args.members.now c.judge.result c.in_ok-judge.field-0 c.judge.ensures c.in_ok-judge.was in
     let e = c.lay.ensures.front in
-    (j.few, (c.lay.ensures.whole, (rw e j.up, (rw e j.fit, tt))))
+    record { within = j.few; whole = c.lay.ensures.whole; up = rw e j.up; fit = rw e j.fit }
 
 pub returns : goal.returns
 returns c =
