@@ -20,7 +20,7 @@ pub trait Ranged {
 
 // Whether every entry is in range.
 fn all_in_range<T: Ranged + Copy>(list: &[T]) -> bool
-    ensures { result ≡ every ranged list.now }
+    ensures { result ≡ every T.ranged list.now }
 {
     for k in 0..list.len() {
         if !list[k].in_range() {
