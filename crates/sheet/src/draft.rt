@@ -52,7 +52,7 @@ fn tally(rows: &[Row], address: u8) -> usize
 
 // Whether `x` comes after the last of the list.
 fn comes_after<T: Keyed>(list: &[T], x: &T) -> bool
-    ensures { result ≡ after key list.now x.now }
+    ensures { result ≡ after T.key list.now x.now }
 {
     if list.len() == 0 {
         return true;
