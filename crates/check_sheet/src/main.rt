@@ -10,16 +10,10 @@ use instrument::write_instrument;
 use sheet::read_sheet;
 use std::io;
 use std::io::{BufWriter, Read, Write};
+use std::process::ExitCode;
 
 /// One word more than a sheet may have: what does not fit here is too long in any case.
 const ROOM: usize = 788;
-
-/// Why the program ends with status 1.
-#[derive(Drop)]
-enum Failure {
-    Refused,
-    Io(io::Error),
-}
 
 /// Fills the buffer from standard input, and tells how many bytes there were.
 fn fill(rt: &HostRuntime, buffer: &mut [u8]) -> io::Result<usize>
@@ -57,13 +51,13 @@ fn run(rt: &HostRuntime) -> io::Result<bool> {
     Ok(accepted)
 }
 
-fn main(rt: HostRuntime) -> Result<(), Failure> {
+fn main(rt: HostRuntime) -> ExitCode {
     match run(&rt) {
-        Ok(true) => Ok(()),
-        Ok(false) => Err(Failure::Refused),
+        Ok(true) => ExitCode::SUCCESS,
+        Ok(false) => ExitCode::FAILURE,
         Err(e) => {
             let _ = eprintln!(rt; "check_sheet: {e}");
-            Err(Failure::Io(e))
+            ExitCode::FAILURE
         }
     }
 }

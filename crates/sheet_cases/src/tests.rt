@@ -7,23 +7,18 @@ use std::process::Abort;
 use std::test::Fail;
 
 // Refused with that number, at that word.
-fn refused(rt: &impl Abort, writing: &Writing, number: u8, word: usize) -> Result<(), Fail> {
+fn refused(rt: &impl Abort, writing: &Writing, number: u8, word: usize, case: &str) {
     match writing.read() {
-        Ok(_) => {
-            assert!(rt; false, "accepted");
-            Ok(())
-        },
+        Ok(_) => assert!(rt; false, "accepted: {case}"),
         Err(e) => {
-            assert_eq!(rt; e.refusal.number(), number);
-            assert_eq!(rt; e.word, word);
-            Ok(())
+            assert_eq!(rt; e.refusal.number(), number, "{case}");
+            assert_eq!(rt; e.word, word, "{case}");
         }
     }
 }
 
-fn accepted(rt: &impl Abort, writing: &Writing) -> Result<(), Fail> {
-    assert!(rt; writing.read().is_ok());
-    Ok(())
+fn accepted(rt: &impl Abort, writing: &Writing, case: &str) {
+    assert!(rt; writing.read().is_ok(), "{case}");
 }
 
 // All that a sheet may hold: 64 rows, 16 members and 16 pairs, in 195 words.
@@ -39,7 +34,7 @@ fn full() -> Writing {
 }
 
 #[test]
-fn the_longest_sheet(rt: HostRuntime) -> Result<(), Fail> {
+fn the_longest_sheet(rt: HostRuntime) {
     let mut writing = full();
     writing.end();
     match writing.read() {
@@ -51,147 +46,155 @@ fn the_longest_sheet(rt: HostRuntime) -> Result<(), Fail> {
         Err(_) => assert!(rt; false, "refused"),
     }
     writing.end();
-    refused(&rt, &writing, 13, 0).note("one word more")
+    refused(&rt, &writing, 13, 0, "one word more");
 }
 
-fn refused_length(rt: &impl Abort, writing: &Writing, length: usize) -> Result<(), Fail> {
+fn refused_length(rt: &impl Abort, writing: &Writing, length: usize, case: &str) {
     match writing.read_bytes(length) {
-        Ok(_) => {
-            assert!(rt; false, "accepted");
-            Ok(())
-        },
+        Ok(_) => assert!(rt; false, "accepted: {case}"),
         Err(e) => {
-            assert_eq!(rt; e.refusal.number(), 13);
-            assert_eq!(rt; e.word, 0);
-            Ok(())
+            assert_eq!(rt; e.refusal.number(), 13, "{case}");
+            assert_eq!(rt; e.word, 0, "{case}");
         }
     }
 }
 
 #[test]
-fn lengths(rt: HostRuntime) -> Result<(), Fail> {
+fn lengths(rt: HostRuntime) {
     let mut writing = Writing::new();
     writing.end();
-    accepted(&rt, &writing).note("no entry at all")?;
-    refused_length(&rt, &writing, 0)?;
-    refused_length(&rt, &writing, 12)?;
-    refused_length(&rt, &writing, 15)?;
-    refused_length(&rt, &writing, 17)?;
+    accepted(&rt, &writing, "no entry at all");
+    refused_length(&rt, &writing, 0, "no byte");
+    refused_length(&rt, &writing, 12, "three words");
+    refused_length(&rt, &writing, 15, "a byte less than four words");
+    refused_length(&rt, &writing, 17, "a byte more than four words");
     writing.change(0, 0);
-    refused_length(&rt, &writing, 18).note("before a kind out of order")?;
-    refused_length(&rt, &full(), 785)?;
-    refused_length(&rt, &full(), 788)
+    refused_length(&rt, &writing, 18, "before a kind out of order");
+    refused_length(&rt, &full(), 785, "a byte more than 196 words");
+    refused_length(&rt, &full(), 788, "197 words");
 }
 
 #[test]
-fn kinds_out_of_order(rt: HostRuntime) -> Result<(), Fail> {
+fn kinds_out_of_order(rt: HostRuntime) {
     let mut writing = Writing::new();
     writing.entry(6, 1, 0, 0);
     writing.entry(4, 0, 0, 0);
     writing.end();
-    refused(&rt, &writing, 14, 5).note("a row after a member")?;
+    refused(&rt, &writing, 14, 5, "a row after a member");
     writing.change(4, 0x6000_0000);
-    refused(&rt, &writing, 14, 4).note("no kind 5")?;
+    refused(&rt, &writing, 14, 4, "no kind 5");
     writing.change(2, 0x4000_0020);
-    refused(&rt, &writing, 14, 2).note("before a Function Block out of range")?;
+    refused(&rt, &writing, 14, 2, "before a Function Block out of range");
     writing.change(1, 0x3000_0000);
-    refused(&rt, &writing, 14, 1)?;
+    refused(&rt, &writing, 14, 1, "the second word");
     writing.change(0, 0x2000_0000);
-    refused(&rt, &writing, 14, 0).note("the first possible word")
+    refused(&rt, &writing, 14, 0, "the first possible word");
 }
 
 #[test]
-fn ends_out_of_order(rt: HostRuntime) -> Result<(), Fail> {
+fn ends_out_of_order(rt: HostRuntime) {
     let mut writing = full();
-    refused(&rt, &writing, 14, 195).note("no end")?;
+    refused(&rt, &writing, 14, 195, "no end");
     writing.put(0x9000_0000);
-    refused(&rt, &writing, 14, 195).note("the last possible word")?;
+    refused(&rt, &writing, 14, 195, "the last possible word");
     writing.change(193, 0x8000_00C1);
-    refused(&rt, &writing, 14, 194).note("words after the end")?;
+    refused(&rt, &writing, 14, 194, "words after the end");
     let mut cut = Writing::new();
     cut.put(0x4000_0000);
-    refused(&rt, &cut, 14, 4).note("half an entry")
+    refused(&rt, &cut, 14, 4, "half an entry");
 }
 
 #[test]
-fn fields_out_of_range(rt: HostRuntime) -> Result<(), Fail> {
+fn fields_out_of_range(rt: HostRuntime) {
     let mut writing = full();
     writing.put(0x8000_00C2);
-    refused(&rt, &writing, 15, 195).note("a wrong count, the last possible word")?;
+    refused(
+        &rt,
+        &writing,
+        15,
+        195,
+        "a wrong count, the last possible word",
+    );
     writing.change(132, 0x5000_0080);
-    refused(&rt, &writing, 15, 132).note("not 0")?;
+    refused(&rt, &writing, 15, 132, "not 0");
     writing.change(132, 0x5000_0001);
-    refused(&rt, &writing, 15, 132).note("a member is neither on nor off")?;
+    refused(&rt, &writing, 15, 132, "a member is neither on nor off");
     writing.change(131, 0x6120_0000);
-    refused(&rt, &writing, 15, 131).note("set 9")?;
+    refused(&rt, &writing, 15, 131, "set 9");
     writing.change(131, 0x6000_0000);
-    refused(&rt, &writing, 15, 131).note("set 0")?;
+    refused(&rt, &writing, 15, 131, "set 0");
     writing.change(4, 0x5000_0002);
-    refused(&rt, &writing, 15, 4).note("neither on nor off")?;
+    refused(&rt, &writing, 15, 4, "neither on nor off");
     writing.change(3, 0x4200_0000);
-    refused(&rt, &writing, 15, 3).note("no address")?;
+    refused(&rt, &writing, 15, 3, "no address");
     writing.change(2, 0x3000_00A0);
-    refused(&rt, &writing, 15, 2).note("the first possible word")
+    refused(&rt, &writing, 15, 2, "the first possible word");
 }
 
 #[test]
-fn not_rising(rt: HostRuntime) -> Result<(), Fail> {
+fn not_rising(rt: HostRuntime) {
     let mut twice = Writing::new();
     twice.entry(4, 0, 0, 0);
     twice.entry(4, 0, 0, 1);
     twice.end();
-    refused(&rt, &twice, 16, 6).note("the first possible word")?;
+    refused(&rt, &twice, 16, 6, "the first possible word");
     twice.change(6, 0x5000_0002);
-    refused(&rt, &twice, 15, 6).note("a range before the order")?;
+    refused(&rt, &twice, 15, 6, "a range before the order");
     let mut falling = Writing::new();
     falling.entry(6, 1, 1, 0);
     falling.entry(6, 2, 0, 0);
     falling.end();
-    refused(&rt, &falling, 16, 6).note("members rise by ID alone")
+    refused(&rt, &falling, 16, 6, "members rise by ID alone");
 }
 
 #[test]
-fn one_too_many(rt: HostRuntime) -> Result<(), Fail> {
+fn one_too_many(rt: HostRuntime) {
     let mut writing = full();
     writing.put(0x7FE0_0000);
-    refused(&rt, &writing, 16, 195).note("a 17th pair, the last possible word")?;
+    refused(
+        &rt,
+        &writing,
+        16,
+        195,
+        "a 17th pair, the last possible word",
+    );
     writing.change(195, 0x7220_0000);
-    refused(&rt, &writing, 15, 195).note("a range before the limit")?;
+    refused(&rt, &writing, 15, 195, "a range before the limit");
     writing.change(195, 0x4FE0_0000);
-    refused(&rt, &writing, 14, 195).note("an order before the limit")?;
+    refused(&rt, &writing, 14, 195, "an order before the limit");
     writing.change(131, 0x4FE0_0000);
-    refused(&rt, &writing, 16, 131).note("a 65th row")?;
+    refused(&rt, &writing, 16, 131, "a 65th row");
     writing.change(45, 0x4000_0000);
-    refused(&rt, &writing, 16, 45).note("a 22nd row at its address")?;
+    refused(&rt, &writing, 16, 45, "a 22nd row at its address");
     let mut members = Writing::new();
     members.entries(6, 1, 17);
-    refused(&rt, &members, 16, 35).note("a 17th member")
+    refused(&rt, &members, 16, 35, "a 17th member");
 }
 
 #[test]
-fn collisions(rt: HostRuntime) -> Result<(), Fail> {
+fn collisions(rt: HostRuntime) {
     let mut writing = Writing::new();
     writing.entry(4, 0, 0, 1);
     writing.entry(4, 0, 1, 1);
     writing.entry(6, 1, 0, 0);
     writing.entry(6, 1, 1, 0);
     writing.end();
-    refused(&rt, &writing, 17, 5).note("the first possible word")?;
+    refused(&rt, &writing, 17, 5, "the first possible word");
     writing.change(11, 0x8000_0000);
-    refused(&rt, &writing, 15, 11).note("after all other faults")?;
+    refused(&rt, &writing, 15, 11, "after all other faults");
     writing.change(11, 0x8000_000B);
     writing.change(9, 0x6040_0000);
-    accepted(&rt, &writing).note("in two sets")?;
+    accepted(&rt, &writing, "in two sets");
     writing.change(9, 0x6020_0000);
     writing.change(5, 0x4020_0000);
-    accepted(&rt, &writing).note("at two addresses")?;
+    accepted(&rt, &writing, "at two addresses");
     writing.change(5, 0x4000_0000);
     writing.change(6, 0x5000_4000);
-    accepted(&rt, &writing).note("one is off")
+    accepted(&rt, &writing, "one is off");
 }
 
 #[test]
-fn the_last_collision(rt: HostRuntime) -> Result<(), Fail> {
+fn the_last_collision(rt: HostRuntime) {
     let mut writing = Writing::new();
     writing.entries(4, 0, 21);
     writing.entries(4, 1, 21);
@@ -201,7 +204,7 @@ fn the_last_collision(rt: HostRuntime) -> Result<(), Fail> {
     writing.entry(6, 1, 0, 0);
     writing.entry(6, 1, 1, 0);
     writing.end();
-    refused(&rt, &writing, 17, 129)
+    refused(&rt, &writing, 17, 129, "the last possible word");
 }
 
 // Three rows of one set at Channel 1, the second on, and a row at the Group that is held on.
@@ -220,10 +223,10 @@ fn organ() -> Writing {
 }
 
 #[test]
-fn an_organ(rt: HostRuntime) -> Result<(), Fail> {
+fn an_organ(rt: HostRuntime) {
     let Ok(sheet) = organ().read() else {
         assert!(rt; false, "refused");
-        return Ok(());
+        return;
     };
     assert_eq!(rt; sheet.identity.bytes, [0x7D, 0, 0, 0, 2, 2, 0, 0, 0, 0, 1]);
     assert_eq!(rt; sheet.identity.block, 1);
@@ -238,11 +241,10 @@ fn an_organ(rt: HostRuntime) -> Result<(), Fail> {
     assert!(rt; !pile.switch(0, [0, 0, 0, 0, 3], false), "off by now");
     assert!(rt; !pile.switch(0x7E, [0, 0, 0, 0, 5], false), "held");
     assert!(rt; pile.plug(1, [0, 0, 0, 0, 2]));
-    Ok(())
 }
 
 #[test]
-fn a_piano(rt: HostRuntime) -> Result<(), Fail> {
+fn a_piano(rt: HostRuntime) {
     let mut writing = Writing::new();
     writing.change(1, 0x2020_4000);
     writing.change(2, 0x3000_0080);
@@ -257,12 +259,11 @@ fn a_piano(rt: HostRuntime) -> Result<(), Fail> {
     writing.put(0x8000_000B);
     let Ok(sheet) = writing.read() else {
         assert!(rt; false, "refused");
-        return Ok(());
+        return;
     };
     let mut pile = sheet.into_pile();
     assert!(rt; !pile.switch(0, [0x7E, 0, 0, 1, 1], false), "held on");
     assert!(rt; !pile.switch(0x7F, [0x7E, 0, 1, 1, 1], true), "held off");
-    Ok(())
 }
 
 // The sentence of a refusal.

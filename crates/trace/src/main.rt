@@ -7,6 +7,7 @@ mod tracer;
 
 use std::io;
 use std::io::{BufWriter, Read, Write};
+use std::process::ExitCode;
 use tracer::Tracer;
 
 /// How many bytes are read at a time.
@@ -30,10 +31,12 @@ fn run(rt: &HostRuntime) -> io::Result<()> {
     out.flush()
 }
 
-fn main(rt: HostRuntime) -> io::Result<()> {
-    let result = run(&rt);
-    if let Err(e) = &result {
-        let _ = eprintln!(rt; "trace: {e}");
+fn main(rt: HostRuntime) -> ExitCode {
+    match run(&rt) {
+        Ok(()) => ExitCode::SUCCESS,
+        Err(e) => {
+            let _ = eprintln!(rt; "trace: {e}");
+            ExitCode::FAILURE
+        }
     }
-    result
 }
