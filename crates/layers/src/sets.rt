@@ -128,8 +128,8 @@ fn put_off<B: Host>(below: &mut B, members: &Members, address: u8, id: [u8; 5])
 
 // Switches a row on below, once its rivals are off.
 fn put_on<B: Host>(below: &mut B, members: &Members, address: u8, id: [u8; 5]) -> bool
-    requires id_value { set_on (members_of members.now) (B.Host.listing below.old) (B.Host.consents below.old) address id ≡ true }
-    requires true_value { differs (look (B.Host.listing below.old) address id) true ≡ true }
+    requires consents { set_on (members_of members.now) (B.Host.listing below.old) (B.Host.consents below.old) address id ≡ true }
+    requires moves { differs (look (B.Host.listing below.old) address id) true ≡ true }
     ensures does { Switched (B.Host.listing below.old) (setted (members_of members.now) (B.Host.listing below.old) (B.Host.consents below.old)) (B.Host.fixed below.old) address id true (B.Host.listing below.new) (setted (members_of members.now) (B.Host.listing below.new) (B.Host.consents below.new)) (B.Host.fixed below.new) result }
     ensures same { B.Host.keeps below.old below.new }
 {
