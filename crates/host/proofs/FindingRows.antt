@@ -1,5 +1,5 @@
 -- The search of a row, by the words of the rising list and of the rows.
-use Rattle.std.proofs.Common.{◌≡◌, ℕ, ◌<◌, Bool, true, false, List, ◌∷◌, length, get_or, is_some, Some, None, Option, sym, refl, ap, ◌∙◌, MatchOption}
+use Rattle.std.proofs.Common.{◌≡◌, ℕ, false, List, get_or, is_some, Some, None, Option, sym, ap, ◌∙◌, MatchOption}
 use Rattle.rising.specs.Lists.{Rising, Absent, Stands, holds, found}
 use Rattle.message.specs.Rows.{row_key}
 use Rattle.message.specs.declared.row.Row.{Row}

@@ -1,5 +1,5 @@
 -- Nothing is said exactly of listings.
-use Rattle.std.proofs.Common.{◌≡◌, ℕ, ◌<◌, ◌≤◌, Bool, true, false, cond, not, ◌||◌, eqb, ltb, ◌⊎◌, List, [], ◌∷◌, length, Some, None, Option, refl, ap, ⊎_elim, arith}
+use Rattle.std.proofs.Common.{◌≡◌, ℕ, ◌<◌, ◌≤◌, Bool, true, false, cond, not, ◌||◌, eqb, ltb, List, [], ◌∷◌, length, Some, None, Option, refl, ap, ⊎_elim, arith}
 use Rattle.std.proofs.lemmas.Bool.{or_parts, or_from, eqb-true, ltb-false, le-ltb, not-false, not_from_true, cases_lt, cond-false}
 use Rattle.rising.specs.Lists.{rising}
 use Rattle.message.specs.Rows.{row_key, all_ranged}

@@ -1,5 +1,5 @@
 -- What the search of a row tells.
-use Rattle.std.specs.Prelude.{◌≡◌, ℕ, ◌<◌, Bool, List, length, Some, None, Option, slice_index_or}
+use Rattle.std.specs.Prelude.{ℕ, ◌<◌, Bool, List, length, Some, None, Option, slice_index_or}
 use Rattle.message.specs.declared.row.Row.{Row}
 
 -- the state of the row at that place

@@ -1,15 +1,15 @@
 -- Framed bytes are laid out as they read.
-use Rattle.std.proofs.Common.{◌≡◌, ℕ, zero, suc, ◌+◌, ◌-◌, ◌*◌, ◌/◌, ◌%◌, ◌<◌, ◌≤◌, Bool, true, false, cond, ◌&&◌, ◌||◌, eqb, ltb, leb, List, [], ◌∷◌, ◌++◌, length, get_or, take, drop, sym, refl, ap, ◌∙◌, add-zero, arith}
-use Rattle.std.proofs.lemmas.List.{append_assoc, length-append, length-take, take-append-drop, length-drop, drop-drop, get_or-drop, get_or-take, get_or_past}
+use Rattle.std.proofs.Common.{◌≡◌, ℕ, suc, ◌+◌, ◌-◌, ◌*◌, ◌/◌, ◌%◌, ◌<◌, ◌≤◌, Bool, true, false, cond, ◌&&◌, eqb, ltb, leb, List, [], ◌∷◌, ◌++◌, length, get_or, take, drop, sym, refl, ap, ◌∙◌, add-zero, arith}
+use Rattle.std.proofs.lemmas.List.{length-take, take-append-drop, length-drop, drop-drop, get_or-drop, get_or-take, get_or_past}
 use Rattle.std.proofs.lemmas.Bool.{and_parts, eqb-true, eqb-false, leb-true, ltb-true, ltb-false, or_parts, true≢false}
 use Rattle.std.proofs.lemmas.Bool.Decides.{nat_tests}
 use Rattle.message.specs.Bytes.{sevens}
 use Rattle.message.specs.Codes.{code}
-use Rattle.message.specs.Messages.{Fields, muid, encode, framed, fields, number_at}
-use Rattle.message.specs.Kinds.{Kind, discovery, discovery-reply, invalidation, profile-inquiry, profile-reply, set_on, set-off, enabled, disabled, added, removed, nak, other, kind, kind_at, kind_by, least, too_short, count_at, counted_lists, two_lists, with_id}
-use Rattle.message.specs.Laws.{Of, InFront, Counts, LaidOut}
+use Rattle.message.specs.Messages.{Fields, muid, encode, framed, fields}
+use Rattle.message.specs.Kinds.{Kind, discovery, discovery-reply, invalidation, profile-inquiry, profile-reply, set_on, set-off, enabled, disabled, added, removed, nak, other, kind, kind_by, least, too_short, count_at, two_lists, with_id}
+use Rattle.message.specs.Laws.{Of, InFront, LaidOut}
 use Rattle.message.specs.declared.sub_id.SubId.{SubId}
-use Rattle.message.proofs.Framing.{inner-low, framed_inside, sevens_get_d}
+use Rattle.message.proofs.Framing.{inner-low, framed_inside}
 
 last_split : (x : ℕ) (xs : List ℕ) → x ∷ xs ≡ take (length xs) (x ∷ xs) ++ get_or (x ∷ xs) (length xs) 0 ∷ []
 last_split x [] = refl

@@ -1,8 +1,8 @@
 -- One more row of those at an address.
-use Rattle.std.proofs.Common.{◌≡◌, ℕ, suc, ◌+◌, ◌*◌, ◌<◌, ◌≤◌, Bool, true, false, cond, List, [], ◌∷◌, ◌++◌, length, get_or, drop, sym, refl, ap, ◌∙◌, arith}
+use Rattle.std.proofs.Common.{◌≡◌, ℕ, ◌+◌, ◌<◌, Bool, true, false, cond, List, [], ◌∷◌, length, get_or, drop, ap, ◌∙◌}
 use Rattle.std.proofs.lemmas.List.{at_drop_more}
 use Rattle.message.specs.declared.row.Row.{Row}
-use Rattle.message.specs.Rows.{keep, stands, part}
+use Rattle.message.specs.Rows.{stands, part}
 
 -- what a row reads as past the end
 abbrev pub no_row : Row

@@ -1,18 +1,17 @@
 -- What is written reads back.
-use Rattle.std.proofs.Common.{◌≡◌, ℕ, ◌+◌, ◌-◌, ◌*◌, ◌/◌, ◌%◌, ◌<◌, ◌≤◌, Bool, true, false, cond, ◌&&◌, ◌||◌, eqb, ltb, leb, ◌⊎◌, List, [], ◌∷◌, ◌++◌, length, get_or, take, drop, sym, refl, ap, ◌∙◌, inl, inr, ⊎_elim, arith}
+use Rattle.std.proofs.Common.{◌≡◌, ℕ, ◌+◌, ◌-◌, ◌*◌, ◌/◌, ◌%◌, ◌<◌, ◌≤◌, Bool, true, false, cond, ◌||◌, eqb, ltb, leb, List, [], ◌∷◌, ◌++◌, length, get_or, take, drop, sym, refl, ap, ◌∙◌, ⊎_elim, arith}
 use Rattle.std.proofs.lemmas.List.{append_assoc, append-nil, length-append, take_at, take_all, drop_at, get_or_at, get_or_push}
 use Rattle.std.proofs.lemmas.Bool.{and_parts, and_from, or_cases, le-leb, le-ltb, eq-eqb, eqb-true, leb-true, ltb-true, lt-ltb, cond-true, cond-false}
-use Rattle.message.specs.Bytes.{sevens, is_address, is_id, is_block}
+use Rattle.message.specs.Bytes.{sevens, is_address, is_id}
 use Rattle.message.specs.Codes.{code, status_code}
 use Rattle.message.specs.Messages.{Fields, muid, encode, framed, fields}
-use Rattle.message.specs.Kinds.{Kind, profile-reply, other, kind, kind_by, least, short, count_at, counted_lists, two_lists, with_id, enabled, disabled, added, removed, discovery, discovery-reply, invalidation, nak}
-use Rattle.message.specs.Reading.{Reading, refused, taken_apart, reads}
+use Rattle.message.specs.Kinds.{Kind, profile-reply, kind, kind_by, least, count_at, counted_lists, two_lists, with_id, enabled, disabled, added, removed, invalidation}
+use Rattle.message.specs.Reading.{refused, taken_apart, reads}
 use Rattle.message.specs.Rows.{keep, stands, part, ranged, all_ranged}
 use Rattle.message.specs.Sending.{everyone, sends, supports, channels, meant, ids_of, counted, profile_list}
 use Rattle.message.specs.Laws.{given_kind, InRange}
 use Rattle.message.specs.declared.refusal.Refusal.{Refusal}
 use Rattle.message.specs.declared.row.Row.{Row}
-use Rattle.message.specs.declared.muid.Muid.{Muid}
 use Rattle.message.specs.declared.address.Address.{Address}
 use Rattle.message.specs.declared.profile_id.ProfileId.{ProfileId}
 use Rattle.message.specs.declared.identity.Identity.{Identity}

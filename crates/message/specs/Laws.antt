@@ -1,5 +1,5 @@
 -- What reading and writing have to do with each other.
-use Rattle.std.specs.Prelude.{◌≡◌, ℕ, ◌+◌, ◌*◌, ◌/◌, ◌%◌, ◌<◌, ◌≤◌, Bool, true, false, cond, List, [], ◌∷◌, ◌++◌, length, nat_le}
+use Rattle.std.specs.Prelude.{◌≡◌, ℕ, ◌*◌, ◌/◌, ◌%◌, ◌<◌, ◌≤◌, true, false, cond, List, [], ◌∷◌, ◌++◌, length, nat_le}
 use Rattle.message.specs.Codes.{code, status_code}
 use Rattle.message.specs.Messages.{Fields, muid, encode, framed, fields}
 use Rattle.message.specs.Kinds.{Kind, discovery, discovery-reply, invalidation, profile-inquiry, profile-reply, set_on, set-off, enabled, disabled, added, removed, nak, other, kind}

@@ -1,10 +1,9 @@
 -- An inquiry with a version, a supported Sub-ID and an address, by its kind.
-use Rattle.std.proofs.Common.{◌≡◌, ℕ, suc, ◌+◌, ◌≤◌, Bool, true, false, cond, not, ◌&&◌, ◌||◌, eqb, ltb, leb, ◌⊎◌, List, [], ◌∷◌, map, length, get_or, take, Some, None, Option, sym, refl, ap, ◌∙◌, subst, inl, inr, ⊎_elim, arith}
+use Rattle.std.proofs.Common.{◌≡◌, ℕ, ◌+◌, Bool, true, false, cond, not, ◌||◌, eqb, ltb, leb, ◌⊎◌, List, [], ◌∷◌, map, length, get_or, take, Some, None, sym, refl, ap, ◌∙◌, subst, inl, inr, ⊎_elim, arith}
 use Rattle.std.proofs.lemmas.Bool.{or_cases, both_ways, eqb-true, le-ltb, ne_eqb}
 use Rattle.message.specs.Bytes.{is_address}
-use Rattle.message.specs.Codes.{code}
 use Rattle.message.specs.Messages.{Fields}
-use Rattle.message.specs.Kinds.{Kind, discovery, discovery-reply, invalidation, profile-inquiry, profile-reply, set_on, set-off, enabled, disabled, added, removed, nak, other, kind, least, too_short}
+use Rattle.message.specs.Kinds.{Kind, discovery, discovery-reply, invalidation, profile-inquiry, profile-reply, set_on, set-off, enabled, disabled, added, removed, nak, other, kind}
 use Rattle.message.specs.Reading.{kind_of}
 use Rattle.message.specs.Shapes.{Shaped}
 use Rattle.message.specs.Sending.{discover_reply, profile_list}
@@ -17,7 +16,7 @@ use Rattle.message.specs.declared.sub_id.NakStatus.{NakStatus}
 use Rattle.numbers.specs.Device.{has, noted}
 use Rattle.host.specs.Rows.{has as listed}
 use Rattle.responder.specs.Actions.{Shows, header_of}
-use Rattle.responder.specs.Inquiries.{fault, supported, switching, asked_id, path_of}
+use Rattle.responder.specs.Inquiries.{fault, supported}
 use Rattle.responder.specs.Plans.{Plan, send, turn, replied_at, answering, denying, inquiring}
 
 module _ (d : Identity) (own : ℕ) (others : List ℕ) (l : List Row) where

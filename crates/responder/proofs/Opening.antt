@@ -1,10 +1,9 @@
 -- What is decided of a framed message.
-use Rattle.std.proofs.Common.{◌≡◌, ℕ, suc, ◌+◌, ◌-◌, ◌<◌, ◌≤◌, Bool, true, false, cond, not, ◌&&◌, ◌||◌, eqb, ltb, leb, List, [], ◌∷◌, length, take, drop, Ok, Err, sym, refl, ap, ◌∙◌, subst, arith}
+use Rattle.std.proofs.Common.{◌≡◌, ℕ, ◌+◌, ◌-◌, ◌≤◌, Bool, true, false, cond, not, ◌&&◌, ◌||◌, eqb, ltb, List, [], ◌∷◌, length, drop, Ok, Err, sym, refl, ap, ◌∙◌, arith}
 use Rattle.std.proofs.lemmas.List.{length-take, length-drop}
 use Rattle.std.proofs.lemmas.Bool.{and_parts, or_parts, cond-true, cond-false, eq-eqb, eqb-true, ne_eqb, leb-true}
-use Rattle.message.specs.Codes.{code}
 use Rattle.message.specs.Messages.{Fields, framed, fields}
-use Rattle.message.specs.Kinds.{Kind, kind, least, too_short}
+use Rattle.message.specs.Kinds.{Kind, kind, too_short}
 use Rattle.message.specs.Reading.{Reading, refused, message, reads, told, kind_of, taken_apart}
 use Rattle.message.specs.Shapes.{Shaped, ShapedReading}
 use Rattle.message.specs.Sending.{discover, invalidate}
@@ -12,7 +11,6 @@ use Rattle.message.specs.declared.identity.Identity.{Identity}
 use Rattle.message.specs.declared.message.Message.{Message}
 use Rattle.message.specs.declared.refusal.Refusal.{Refusal}
 use Rattle.message.specs.declared.row.Row.{Row}
-use Rattle.message.specs.declared.sub_id.SubId.{SubId}
 use Rattle.numbers.specs.Device.{noted, forgotten, renewed}
 use Rattle.responder.specs.Actions.{Shows, sorted}
 use Rattle.responder.specs.Inquiries.{heard, usable, clash, for_us, for_us_by, fault, target}

@@ -1,11 +1,10 @@
 -- Reports of a switch: which rows they are about, and how many.
-use Rattle.std.proofs.Common.{◌≡◌, ℕ, zero, suc, ◌+◌, ◌*◌, ◌<◌, ◌≤◌, Bool, true, false, cond, not, ◌&&◌, ◌||◌, eqb, List, [], ◌∷◌, ◌++◌, map, length, get_or, drop, Some, None, Option, sym, refl, ap, ◌∙◌, subst, arith}
+use Rattle.std.proofs.Common.{◌≡◌, ℕ, zero, suc, ◌+◌, ◌*◌, ◌<◌, ◌≤◌, Bool, true, false, cond, not, ◌&&◌, eqb, List, [], ◌∷◌, ◌++◌, map, length, get_or, drop, Some, Option, sym, refl, ap, ◌∙◌, arith}
 use Rattle.std.proofs.lemmas.List.{length-append, append_assoc, append-nil, at_drop_more}
 use Rattle.std.specs.List.{AllByRecursion as All}
 use Rattle.std.specs.Str.{bytes_eq}
-use Rattle.std.proofs.lemmas.Bool.{and_parts, both_ways, eqb-true, eq-eqb, not-true, cond-false}
-use Rattle.rising.specs.Order.{Before, same_key}
-use Rattle.rising.specs.Lists.{leads, rising, Rising}
+use Rattle.std.proofs.lemmas.Bool.{and_parts, both_ways, eqb-true, not-true, cond-false}
+use Rattle.rising.specs.Lists.{leads, Rising}
 use Rattle.rising.proofs.Order.{differs_below, same_refl}
 use Rattle.message.specs.Messages.{Fields, encode}
 use Rattle.message.specs.Sending.{channels, report}
@@ -13,13 +12,13 @@ use Rattle.message.proofs.Encoding.{length-encode}
 use Rattle.message.proofs.Parts.{no_row}
 use Rattle.message.proofs.Trips.{Fives, fives_kept}
 use Rattle.message.specs.Rows.{row_key, keep, ranged, all_ranged}
-use Rattle.message.specs.Writing.{Put, Left}
-use Rattle.message.proofs.Places.{put_by, written_none, as_bytes, left-none, left_more, left-all, left_as}
+use Rattle.message.specs.Writing.{Put}
+use Rattle.message.proofs.Places.{put_by, written_none, as_bytes}
 use Rattle.message.specs.declared.row.Row.{Row}
-use Rattle.host.specs.Rows.{row, same, look, is_on, tally, Sound}
+use Rattle.host.specs.Rows.{same, look, is_on, tally, Sound}
 use Rattle.host.specs.Hosts.{Consents, goes, turned, Switched}
 use Rattle.host.proofs.Keys.{key_same}
-use Rattle.responder.specs.Steps.{fell, put_off, fall_there, falls, reports, reports_bytes, bytes}
+use Rattle.responder.specs.Steps.{fell, put_off, fall_there, falls, reports_bytes, bytes}
 
 -- every row of a rising list is the one that its address and ID find
 abbrev Found : List Row → Row → Type 0

@@ -1,5 +1,5 @@
 -- What is written to the answer buffer is what is sent.
-use Rattle.std.proofs.Common.{◌≡◌, ℕ, ◌+◌, ◌<◌, ◌≤◌, Bool, true, false, cond, ◌&&◌, leb, List, [], ◌∷◌, ◌++◌, length, take, drop, Ok, Err, Result, sym, refl, ap, ◌∙◌, subst, zero-add, arith}
+use Rattle.std.proofs.Common.{◌≡◌, ℕ, ◌+◌, ◌≤◌, Bool, true, false, List, [], ◌∷◌, ◌++◌, length, take, drop, Ok, Err, Result, sym, refl, ap, ◌∙◌, subst, zero-add, arith}
 use Rattle.std.proofs.lemmas.List.{take_at, drop_at, length-append, append-nil}
 use Rattle.std.proofs.lemmas.Bool.{and_from, le-leb, cond-true}
 use Rattle.message.specs.Messages.{Fields, encode}
@@ -9,10 +9,10 @@ use Rattle.message.specs.Sending.{supports, channels, discover, discover_reply, 
 use Rattle.message.specs.declared.sent.Sent.{Sent}
 use Rattle.message.specs.declared.sent.Sent.TheVariants.{Discovery, DiscoveryReply, InvalidateMuid, Enabled, Disabled, Added, Removed, Nak}
 use Rattle.message.proofs.Encoding.{length-encode}
-use Rattle.message.proofs.Places.{put_by, and_then, as_bytes}
+use Rattle.message.proofs.Places.{put_by, and_then}
 use Rattle.message.proofs.Trips.{identity-sevens, id_sevens}
-use Rattle.responder.specs.Steps.{Outcome, sent, refused, outcome, Rest, bytes, Sends, State, Done}
-use Rattle.responder.specs.Plans.{Plan, refuse, send}
+use Rattle.responder.specs.Steps.{sent, outcome, bytes, Sends, State, Done}
+use Rattle.responder.specs.Plans.{Plan, send}
 use Rattle.message.specs.declared.row.Row.{Row}
 use Rattle.host.specs.Hosts.{Consents}
 

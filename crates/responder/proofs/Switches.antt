@@ -12,7 +12,7 @@ use Rattle.message.specs.Writing.{Put}
 use Rattle.message.specs.declared.row.Row.{Row}
 use Rattle.host.specs.Rows.{Sound}
 use Rattle.host.specs.Hosts.{Consents, Switched}
-use Rattle.responder.specs.Steps.{State, Outcome, sent, refused, outcome, Done, Rest, bytes, put_off, reports, reports_bytes, Sends, Turned}
+use Rattle.responder.specs.Steps.{State, Outcome, refused, outcome, Done, Rest, bytes, put_off, reports, reports_bytes, Sends, Turned}
 use Rattle.responder.proofs.Reports.{put_off-few}
 use Rattle.responder.proofs.Sendings.{put-sends}
 

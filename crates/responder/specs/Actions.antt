@@ -1,5 +1,5 @@
 -- The plan that an action stands for.
-use Rattle.std.specs.Prelude.{◌≡◌, ℕ, Bool, cond, ◌||◌, List, [], ◌∷◌, map, Ok, Err, Result, ◌==◌, nat_lt}
+use Rattle.std.specs.Prelude.{◌≡◌, ℕ, cond, ◌||◌, List, [], ◌∷◌, map, Ok, Err, Result, ◌==◌, nat_lt}
 use Rattle.message.specs.Codes.{code}
 use Rattle.message.specs.Kinds.{least, kind}
 use Rattle.message.specs.Messages.{Fields}

@@ -1,5 +1,5 @@
 -- Which messages are heard, which are for us, and what an inquiry asks.
-use Rattle.std.specs.Prelude.{ℕ, Bool, true, false, cond, not, ◌&&◌, ◌||◌, List, [], ◌∷◌, ◌++◌, take, Some, None, Option, ◌==◌, nat_le, nat_lt, slice_index}
+use Rattle.std.specs.Prelude.{ℕ, Bool, cond, not, ◌&&◌, ◌||◌, List, [], ◌∷◌, take, Some, None, Option, ◌==◌, nat_le, nat_lt, slice_index}
 use Rattle.message.specs.Bytes.{is_address}
 use Rattle.message.specs.Codes.{code}
 use Rattle.message.specs.Kinds.{too_short}

@@ -1,5 +1,4 @@
 -- A responder by what it knows.
-use Rattle.std.specs.Prelude.{ℕ}
 use Rattle.numbers.specs.Model.{own_of, listed_of}
 use Rattle.responder.specs.Steps.{State}
 use Rattle.responder.specs.declared.responder.Responder.{Responder}

@@ -1,5 +1,5 @@
 -- What comes of a call, as a function of the device's identity, the own number, the listed devices and the host's rows.
-use Rattle.std.specs.Prelude.{ℕ, zero, suc, Bool, true, false, cond, not, ◌&&◌, ◌||◌, List, [], ◌∷◌, ◌++◌, map, Some, None, Option, ◌==◌, nat_lt}
+use Rattle.std.specs.Prelude.{ℕ, zero, suc, Bool, false, cond, not, ◌&&◌, ◌||◌, List, [], ◌∷◌, ◌++◌, map, Some, None, Option, ◌==◌, nat_lt}
 use Rattle.message.specs.Codes.{code}
 use Rattle.message.specs.Kinds.{too_short}
 use Rattle.message.specs.Messages.{Fields, framed, fields}

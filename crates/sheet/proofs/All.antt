@@ -1,24 +1,23 @@
 -- Every layout of valid contents is accepted.
-use Rattle.std.proofs.Common.{◌≡◌, ℕ, zero, suc, ◌+◌, ◌-◌, ◌*◌, ◌/◌, ◌%◌, ◌<◌, ◌≤◌, Bool, true, false, cond, ◌&&◌, ◌||◌, eqb, ltb, leb, ◌⊎◌, List, [], ◌∷◌, ◌++◌, length, get_or, take, drop, Some, None, Option, sym, refl, ap, ◌∙◌, subst, inl, inr, ⊎_elim, append_assoc, append-nil, arith, length-append}
-use Rattle.std.proofs.lemmas.Bool.{and_parts, and_from, lt-ltb, le-leb, ltb-true, leb-true, eqb-true, eq-eqb, ne_eqb, cases_Bool, cond-true, cond-false}
+use Rattle.std.proofs.Common.{◌≡◌, ℕ, ◌+◌, ◌*◌, ◌<◌, ◌≤◌, Bool, true, false, cond, eqb, ltb, leb, List, [], ◌∷◌, ◌++◌, length, get_or, None, Option, sym, refl, ap, ◌∙◌, append_assoc, append-nil, arith, length-append}
+use Rattle.std.proofs.lemmas.Bool.{and_parts, and_from, lt-ltb, le-leb, eqb-true, eq-eqb}
 use Rattle.std.proofs.lemmas.Bool.Decides.{nat_tests}
-use Rattle.rising.specs.Lists.{rising, Rising}
+use Rattle.rising.specs.Lists.{Rising}
 use Rattle.message.specs.declared.row.Row.{Row}
 use Rattle.layers.specs.declared.member.Member.{Member}
 use Rattle.message.specs.declared.refusal.Refusal.{Refusal}
-use Rattle.message.specs.declared.refusal.Refusal.TheVariants.{SheetLength, SheetOrder, FieldOutOfRange, NotRising, SetCollision}
 use Rattle.layers.specs.declared.pair.Pair.{Pair}
-use Rattle.sheet.specs.Words.{kind, first, second, third, fourth, amount, word}
-use Rattle.message.specs.Bytes.{is_address, is_block}
+use Rattle.sheet.specs.Words.{kind, first, third, fourth, amount, word}
+use Rattle.message.specs.Bytes.{is_address}
 use Rattle.message.specs.Rows.{row_key}
 use Rattle.host.specs.Rows.{tally}
 use Rattle.layers.specs.Lists.{member_key, pair_key}
 use Rattle.sheet.specs.Contents.{Contents, is_set, after}
-use Rattle.sheet.specs.Layout.{laid, two_words, row_words, member_words, pair_words, head_words, so_far, layout}
-use Rattle.message.specs.Bytes.{is_id, sevens}
+use Rattle.sheet.specs.Layout.{laid, row_words, member_words, pair_words}
+use Rattle.message.specs.Bytes.{is_id}
 use Rattle.layers.specs.Lists.{every, member_ranged, pair_ranged}
-use Rattle.sheet.proofs.Orderly.{row_ranged, Orderly}
-use Rattle.sheet.specs.Reading.{Outcome, accepted, refused, fault, follows, fits, room, opening, id_of, row_of, member_of, pair_of, fits_end, rises, ending, with_row, with_member, with_pair, entered, judged, body}
+use Rattle.sheet.proofs.Orderly.{row_ranged}
+use Rattle.sheet.specs.Reading.{Outcome, accepted, fault, follows, fits, room, opening, id_of, row_of, member_of, pair_of, fits_end, rises, ending, with_row, with_member, with_pair, entered, judged, body}
 use Rattle.sheet.proofs.Turns.{at_last, at_two}
 use Rattle.sheet.proofs.Only.{choose, chosen}
 use Rattle.sheet.proofs.Splits.{five_of, low-at}

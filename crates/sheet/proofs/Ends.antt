@@ -1,27 +1,22 @@
 -- Both directions put together, from bytes to contents.
-use Rattle.std.proofs.Common.{◌≡◌, ℕ, zero, suc, ◌+◌, ◌-◌, ◌*◌, ◌/◌, ◌%◌, ◌<◌, ◌≤◌, Bool, true, false, cond, ◌&&◌, ◌||◌, eqb, ltb, leb, ◌⊎◌, List, [], ◌∷◌, ◌++◌, length, get_or, take, drop, Some, None, Option, sym, refl, ap, ◌∙◌, subst, inl, inr, ⊎_elim, append_assoc, append-nil, arith, length-append}
-use Rattle.std.proofs.lemmas.Bool.{eq-eqb, and_parts, and_from, lt-ltb, eqb-true, cases_Bool, cond-true, cond-false}
-use Rattle.message.specs.declared.refusal.Refusal.{Refusal}
-use Rattle.message.specs.declared.refusal.Refusal.TheVariants.{SheetLength, SheetOrder, FieldOutOfRange, NotRising, SetCollision}
+use Rattle.std.proofs.Common.{◌≡◌, ℕ, ◌+◌, ◌*◌, ◌/◌, ◌%◌, ◌<◌, Bool, true, false, eqb, leb, List, [], ◌∷◌, ◌++◌, length, get_or, Some, None, Option, sym, refl, ap, ◌∙◌, subst, ⊎_elim, append_assoc, arith, length-append}
+use Rattle.std.proofs.lemmas.Bool.{eq-eqb, and_parts, and_from, eqb-true, cases_Bool, cond-true, cond-false}
+use Rattle.message.specs.declared.refusal.Refusal.TheVariants.{SheetLength, SheetOrder, FieldOutOfRange, SetCollision}
 use Rattle.sheet.specs.Words.{kind, first, second, third, fourth, word, words}
 use Rattle.message.specs.Bytes.{is_block}
 use Rattle.sheet.specs.Contents.{Contents}
 use Rattle.sheet.specs.Collisions.{clash}
-use Rattle.sheet.specs.Layout.{laid, row_words, member_words, pair_words, head_words, so_far, layout, flat}
+use Rattle.sheet.specs.Layout.{laid, row_words, member_words, pair_words, so_far, layout, flat}
 use Rattle.sheet.specs.Law.{Octets, Exactly}
 use Rattle.message.specs.Bytes.{sevens}
-use Rattle.layers.specs.Lists.{every}
 use Rattle.sheet.proofs.Orderly.{Orderly}
 use Rattle.sheet.specs.Valid.{Valid}
 use Rattle.sheet.specs.Reading.{Outcome, accepted, refused, fault, judged, judged_sets, body, headed, header, continued, settled, reads_words, sized, reads}
 use Rattle.sheet.proofs.Parts.{from_parts, kind_word, first_word, second_word, third_word, fourth_word}
 use Rattle.sheet.proofs.Splits.{eleven-of, low-at}
-use Rattle.sheet.proofs.All.{made, no_fault, rows_read, members_read, pairs_read, closed}
+use Rattle.sheet.proofs.All.{made, rows_read, members_read, pairs_read, closed}
 use Rattle.sheet.proofs.Plain.{sized_true}
 use Rattle.std.proofs.lemmas.Bool.Decides.{nat_tests}
-use Rattle.message.specs.declared.row.Row.{Row}
-use Rattle.layers.specs.declared.member.Member.{Member}
-use Rattle.layers.specs.declared.pair.Pair.{Pair}
 use Rattle.sheet.proofs.Only.{not_both, same-contents, body-only, low}
 use Rattle.sheet.proofs.Pass.{apart_from, pass_from}
 use Rattle.sheet.proofs.Counts.{valid_from, orderly_from, apart_of}

@@ -1,24 +1,24 @@
 -- What is accepted is the layout of valid contents.
-use Rattle.std.proofs.Common.{◌≡◌, ℕ, zero, suc, ◌+◌, ◌-◌, ◌*◌, ◌/◌, ◌%◌, ◌<◌, ◌≤◌, Bool, true, false, cond, ◌&&◌, ◌||◌, eqb, ltb, leb, ◌⊎◌, List, [], ◌∷◌, ◌++◌, length, get_or, take, drop, Some, None, Option, sym, refl, ap, ◌∙◌, subst, inl, inr, ⊎_elim, append_assoc, append-nil, arith, length-append}
-use Rattle.std.proofs.lemmas.Bool.{and_parts, and_from, lt-ltb, ltb-true, leb-true, eqb-true, eq-eqb, ne_eqb, cases_lt, cases_Bool, cases_eq, cond-true, cond-false}
+use Rattle.std.proofs.Common.{◌≡◌, ℕ, ◌+◌, ◌*◌, ◌/◌, ◌%◌, ◌<◌, ◌≤◌, true, cond, ◌||◌, eqb, ltb, ◌⊎◌, List, [], ◌∷◌, ◌++◌, length, Some, None, Option, sym, refl, ap, ◌∙◌, subst, inl, inr, ⊎_elim, append_assoc, append-nil, arith, length-append}
+use Rattle.std.proofs.lemmas.Bool.{and_parts, and_from, lt-ltb, ltb-true, leb-true, eqb-true, eq-eqb, ne_eqb, cases_eq, cond-true, cond-false}
 use Rattle.std.proofs.lemmas.Bool.Decides.{nat_tests}
 use Rattle.message.specs.declared.row.Row.{Row}
 use Rattle.layers.specs.declared.member.Member.{Member}
 use Rattle.message.specs.declared.refusal.Refusal.{Refusal}
-use Rattle.message.specs.declared.refusal.Refusal.TheVariants.{SheetLength, SheetOrder, FieldOutOfRange, NotRising, SetCollision}
+use Rattle.message.specs.declared.refusal.Refusal.TheVariants.{SheetOrder}
 use Rattle.layers.specs.declared.pair.Pair.{Pair}
 use Rattle.sheet.specs.Words.{kind, first, second, third, fourth, amount, word}
-use Rattle.message.specs.Bytes.{is_address, is_block}
+use Rattle.message.specs.Bytes.{is_address}
 use Rattle.message.specs.Rows.{row_key}
 use Rattle.host.specs.Rows.{tally}
 use Rattle.layers.specs.Lists.{member_key, pair_key}
 use Rattle.sheet.specs.Contents.{Contents, is_set, after}
 use Rattle.sheet.specs.Layout.{laid, row_words, member_words, pair_words, head_words, so_far, layout}
-use Rattle.message.specs.Bytes.{is_id, sevens}
-use Rattle.layers.specs.Lists.{every, member_ranged, pair_ranged}
+use Rattle.message.specs.Bytes.{is_id}
+use Rattle.layers.specs.Lists.{member_ranged, pair_ranged}
 use Rattle.sheet.proofs.Orderly.{row_ranged, Orderly}
-use Rattle.sheet.specs.Reading.{Outcome, accepted, refused, fault, follows, fits, room, opening, id_of, row_of, member_of, pair_of, fits_end, rises, ending, with_row, with_member, with_pair, entered, judged, body}
-use Rattle.sheet.proofs.Turns.{fault-none, refused_here, at_last, at_two, body-none}
+use Rattle.sheet.specs.Reading.{accepted, refused, follows, fits, room, opening, id_of, row_of, member_of, pair_of, fits_end, rises, ending, with_row, with_member, with_pair, entered, judged, body}
+use Rattle.sheet.proofs.Turns.{fault-none, refused_here, at_last, at_two}
 use Rattle.sheet.proofs.Parts.{from_parts, from_amount, laid_push, every_push, rising_after, tally_push}
 
 -- members and pairs come only after the rows, and pairs only after the members

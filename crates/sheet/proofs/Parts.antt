@@ -1,10 +1,9 @@
 -- Words and their parts; lists of entries and their words.
-use Rattle.std.proofs.Common.{◌≡◌, ℕ, zero, suc, ◌+◌, ◌-◌, ◌*◌, ◌/◌, ◌%◌, ◌<◌, ◌≤◌, Bool, true, false, cond, ◌&&◌, ◌||◌, eqb, ltb, ◌⊎◌, List, [], ◌∷◌, ◌++◌, length, get_or, take, drop, sym, refl, ap, ◌∙◌, subst, inl, inr, ⊎_elim, append_assoc, append-nil, arith, length-append}
+use Rattle.std.proofs.Common.{◌≡◌, ℕ, zero, suc, ◌+◌, ◌-◌, ◌*◌, ◌/◌, ◌<◌, ◌≤◌, Bool, true, cond, eqb, List, [], ◌∷◌, ◌++◌, length, get_or, sym, refl, ap, ◌∙◌, ⊎_elim, append_assoc, append-nil, arith}
 use native.Mathlib.Nat.{div-div-eq-div-mul}
-use Rattle.std.proofs.lemmas.Bool.{and_parts, and_from, lt-ltb, ltb-true, eqb-true, eq-eqb, cases_lt, cases_Bool}
-use Rattle.std.proofs.lemmas.Bool.Decides.{nat_tests}
-use Rattle.rising.specs.Order.{Key, before, Before}
-use Rattle.rising.specs.Lists.{leads, rising, Rising}
+use Rattle.std.proofs.lemmas.Bool.{and_parts, and_from, eq-eqb, cases_lt}
+use Rattle.rising.specs.Order.{Key, Before}
+use Rattle.rising.specs.Lists.{leads, Rising}
 use Rattle.rising.proofs.Lists.{rising_at, rising_push}
 use Rattle.rising.proofs.Order.{before_trans}
 use Rattle.message.specs.declared.row.Row.{Row}
@@ -12,7 +11,6 @@ use Rattle.sheet.specs.Words.{kind, first, second, third, fourth, amount, word}
 use Rattle.host.specs.Rows.{tally}
 use Rattle.sheet.specs.Contents.{after}
 use Rattle.sheet.specs.Layout.{laid}
-use Rattle.message.specs.Bytes.{is_id, sevens}
 use Rattle.layers.specs.Lists.{every}
 use Rattle.sheet.proofs.Plain.{after_last}
 

@@ -1,13 +1,13 @@
 -- One turn of reading, at each of its ends.
-use Rattle.std.proofs.Common.{◌≡◌, ℕ, zero, suc, ◌+◌, ◌-◌, ◌*◌, ◌/◌, ◌<◌, ◌≤◌, Bool, true, false, cond, ◌&&◌, eqb, ltb, List, [], ◌∷◌, ◌++◌, length, get_or, take, drop, Some, None, Option, sym, refl, ap, ◌∙◌, subst, add-one, arith, drop-cons}
+use Rattle.std.proofs.Common.{◌≡◌, ℕ, suc, ◌+◌, ◌<◌, ◌≤◌, Bool, true, false, cond, eqb, List, [], ◌∷◌, length, get_or, drop, Some, None, Option, sym, refl, ap, ◌∙◌, arith, drop-cons}
 use Rattle.std.proofs.lemmas.List.{drop_all}
 use Rattle.std.proofs.lemmas.Bool.{eq-eqb, ne_eqb}
 use Rattle.message.specs.declared.refusal.Refusal.{Refusal}
-use Rattle.message.specs.declared.refusal.Refusal.TheVariants.{SheetLength, SheetOrder, FieldOutOfRange, NotRising, SetCollision}
+use Rattle.message.specs.declared.refusal.Refusal.TheVariants.{SheetOrder}
 use Rattle.sheet.specs.declared.refusal.SheetRefusal.{SheetRefusal}
 use Rattle.sheet.specs.Words.{kind}
 use Rattle.sheet.specs.Contents.{Contents}
-use Rattle.sheet.specs.Reading.{Outcome, accepted, refused, opening, ending, entered, judged, body, room, fault, follows, fits}
+use Rattle.sheet.specs.Reading.{accepted, refused, opening, ending, entered, judged, body, room, fault, follows, fits}
 
 -- the rest of the list, with one or two words of it taken off
 some_left : (ws : List ℕ) (n w : ℕ) → w ≡ get_or ws n 0 → n < length ws → drop n ws ≡ w ∷ drop (suc n) ws

@@ -1,5 +1,5 @@
 -- Which contents make an instrument.
-use Rattle.std.specs.Prelude.{◌≡◌, ℕ, ◌≤◌, true, length}
+use Rattle.std.specs.Prelude.{◌≡◌, ◌≤◌, true, length}
 use Rattle.rising.specs.Lists.{Rising}
 use Rattle.message.specs.Bytes.{is_identity, is_block}
 use Rattle.host.specs.Rows.{Sound}

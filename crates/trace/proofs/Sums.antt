@@ -1,5 +1,5 @@
 -- The counts of a stream that comes in blocks.
-use Rattle.std.proofs.Common.{◌≡◌, ℕ, ◌+◌, ◌-◌, ◌^◌, ◌<◌, ◌≤◌, min, cond, List, [], ◌∷◌, ◌++◌, length, replicate, sym, refl, ap, ◌∙◌, append_assoc, arith}
+use Rattle.std.proofs.Common.{◌≡◌, ℕ, ◌+◌, ◌-◌, ◌^◌, ◌<◌, ◌≤◌, cond, List, [], ◌∷◌, ◌++◌, length, replicate, sym, refl, ap, ◌∙◌, append_assoc, arith}
 use Rattle.std.proofs.lemmas.List.{length-append}
 use Rattle.message.specs.Messages.{framed}
 use Rattle.collector.specs.Streams.{State, new_with, call, left, told, after, heard, messages}
@@ -7,7 +7,7 @@ use Rattle.collector.specs.Laws.{TellsTheMessages}
 use Rattle.trace.specs.declared.counts.Counts.{Counts}
 use Rattle.trace.specs.Counting.{up, none, with_bytes, counted, all_counted}
 use Rattle.trace.specs.Tracing.{Traced, new_tracer, takes}
-use Rattle.trace.specs.Laws.{running, stream_of, of_midi_ci_in, bytes_in, capped, Counted, CountsTheStream}
+use Rattle.trace.specs.Laws.{running, stream_of, of_midi_ci_in, bytes_in, capped, CountsTheStream}
 
 up_up : (a m n : ℕ) → up (up a m) n ≡ up a (m + n)
 up_up a m n = omega arith

@@ -1,7 +1,7 @@
 -- The turns of the loop over a block.
 use Rattle.std.proofs.Common.{◌≡◌, ℕ, ◌+◌, ◌<◌, ◌≤◌, List, [], ◌∷◌, ◌++◌, length, get_or, drop, sym, refl, ap, ◌∙◌}
 use Rattle.std.proofs.lemmas.List.{at_drop_more, at_drop_all}
-use Rattle.collector.specs.Streams.{State, after, heard, call, left, told}
+use Rattle.collector.specs.Streams.{after, heard, call, left, told}
 use Rattle.trace.specs.declared.counts.Counts.{Counts}
 use Rattle.trace.specs.Counting.{with_bytes, counted, all_counted}
 use Rattle.trace.specs.Tracing.{Traced, steps, goes, takes}

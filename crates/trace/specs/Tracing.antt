@@ -1,5 +1,5 @@
 -- What a tracer does with the blocks of a stream.
-use Rattle.std.specs.Prelude.{ℕ, List, [], ◌∷◌, length, replicate}
+use Rattle.std.specs.Prelude.{ℕ, List, length, replicate}
 use Rattle.collector.specs.Streams.{State, new_with, call, left, told, after, heard}
 use Rattle.trace.specs.Counting.{none, with_bytes, all_counted}
 use Rattle.trace.specs.declared.counts.Counts.{Counts}

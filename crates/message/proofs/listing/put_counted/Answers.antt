@@ -1,5 +1,4 @@
-use Rattle.std.proofs.Common.{◌≡◌, ℕ, ◌/◌, ◌%◌, List, [], ◌∷◌, ◌++◌, length, refl}
-use Rattle.message.specs.Rows.{part}
+use Rattle.std.proofs.Common.{◌≡◌, ℕ, ◌/◌, ◌%◌, List, [], ◌∷◌, ◌++◌, length}
 use Rattle.message.specs.Sending.{ids_of, counted}
 use Rattle.message.specs.declared.row.Row.{Row}
 use Rattle.message.proofs.Places.{and_then, as_bytes}

@@ -1,4 +1,4 @@
-use Rattle.std.proofs.Common.{◌≡◌, ◌+◌, ◌*◌, ◌<◌, true, false, length, sym, refl, arith}
+use Rattle.std.proofs.Common.{◌+◌, ◌<◌, true, false, length, sym, refl, arith}
 use Rattle.std.proofs.lemmas.List.{length-append}
 use Rattle.message.specs.Messages.{encode}
 use Rattle.message.specs.Rows.{part}

@@ -1,6 +1,5 @@
-use Rattle.std.proofs.Common.{◌≡◌, ◌+◌, ◌++◌, length, sym, refl, ap, ◌∙◌, arith}
+use Rattle.std.proofs.Common.{◌++◌, sym, arith}
 use Rattle.std.proofs.lemmas.List.{length-append}
-use Rattle.message.specs.Messages.{encode}
 use Rattle.message.specs.Sending.{sends}
 use Rattle.message.proofs.Encoding.{length-encode, whole_parts}
 use Rattle.message.proofs.Places.{and_then, as_bytes, written-whole, written_not}

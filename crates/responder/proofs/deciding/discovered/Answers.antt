@@ -1,8 +1,8 @@
-use Rattle.std.proofs.Common.{◌≡◌, true, eqb, [], ◌∷◌, sym, ap, ◌∙◌}
+use Rattle.std.proofs.Common.{[], ◌∷◌, sym, ap, ◌∙◌}
 use Rattle.std.proofs.lemmas.Bool.{cond-true, eq-eqb}
 use Rattle.message.specs.Sending.{discover_reply}
 use Rattle.numbers.specs.Device.{noted}
-use Rattle.responder.specs.Plans.{Plan, send}
+use Rattle.responder.specs.Plans.{send}
 use Rattle.responder.proofs.deciding.discovered.Goals as goal
 
 pub returns : goal.returns

@@ -1,8 +1,8 @@
-use Rattle.std.proofs.Common.{◌≡◌, ◌+◌, [], ◌++◌, length, drop, refl, ap, arith}
+use Rattle.std.proofs.Common.{◌+◌, [], ◌++◌, length, drop, refl, ap, arith}
 use Rattle.std.proofs.lemmas.List.{length-append}
 use Rattle.message.specs.Messages.{encode}
 use Rattle.message.specs.Sending.{profile_list}
-use Rattle.message.proofs.Places.{left-none, left_more, left-all, left_as}
+use Rattle.message.proofs.Places.{left-none, left_more, left_as}
 use Rattle.responder.specs.Steps.{reply_there}
 use Rattle.responder.proofs.Replies.{places, replies_from, replies_fit, replies_step, replies_group, last_reply}
 use Rattle.responder.proofs.listing.write_every_list.Goals as goal

@@ -1,6 +1,5 @@
-use Rattle.std.proofs.Common.{sym, ap, subst, arith}
+use Rattle.std.proofs.Common.{sym, ap, arith}
 use Rattle.std.proofs.lemmas.Bool.{ne_eqb}
-use Rattle.message.specs.Writing.{Put}
 use Rattle.responder.specs.Steps.{lists_bytes}
 use Rattle.responder.proofs.Replies.{reply_put, reply_short}
 use Rattle.message.proofs.Places.{as_bytes}

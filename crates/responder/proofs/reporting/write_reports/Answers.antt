@@ -1,4 +1,4 @@
-use Rattle.std.proofs.Common.{true, false, sym, refl, arith}
+use Rattle.std.proofs.Common.{true, false, arith}
 use Rattle.message.specs.declared.sent.Sent.{Sent}
 use Rattle.message.proofs.Places.{and_then, as_bytes}
 use Rattle.responder.proofs.Reports.{falls-fit, reports_end}

@@ -1,4 +1,4 @@
-use Rattle.std.proofs.Common.{◌≡◌, ℕ, arith}
+use Rattle.std.proofs.Common.{arith}
 use Rattle.message.specs.declared.sent.Sent.{Sent}
 use Rattle.responder.proofs.Sendings.{two_send, never_refused}
 use Rattle.responder.proofs.sending.write_new_number.Goals as goal

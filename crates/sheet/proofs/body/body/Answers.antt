@@ -1,6 +1,5 @@
 use Rattle.std.proofs.Common.{◌≡◌, ℕ, ◌+◌, ◌/◌, length, drop, sym, ap, ◌∙◌, arith}
-use Rattle.message.specs.declared.refusal.Refusal.{Refusal}
-use Rattle.message.specs.declared.refusal.Refusal.TheVariants.{SheetLength, SheetOrder, FieldOutOfRange, NotRising, SetCollision}
+use Rattle.message.specs.declared.refusal.Refusal.TheVariants.{SheetOrder}
 use Rattle.sheet.specs.Words.{words, kind}
 use Rattle.sheet.specs.Contents.{Contents}
 use Rattle.sheet.specs.Drafts.{contents}

@@ -1,4 +1,4 @@
-use Rattle.std.proofs.Common.{◌≡◌, ◌-◌, ◌≤◌, length, drop}
+use Rattle.std.proofs.Common.{◌≡◌, ◌-◌, ◌≤◌, drop}
 use Rattle.sheet.specs.Words.{words}
 use Rattle.sheet.specs.Drafts.{contents}
 use Rattle.sheet.specs.Reading.{body}

@@ -1,6 +1,5 @@
-use Rattle.std.proofs.Common.{◌≡◌, ℕ, sym, ap, ◌∙◌, arith}
+use Rattle.std.proofs.Common.{sym, ap, ◌∙◌}
 use Rattle.message.specs.declared.refusal.Refusal.{Refusal}
-use Rattle.sheet.specs.Words.{kind}
 use Rattle.sheet.specs.Reading.{refused}
 use Rattle.sheet.proofs.Header.{header_in, header_out}
 use Rattle.sheet.proofs.read.header.Goals as goal

@@ -1,4 +1,4 @@
-use Rattle.std.proofs.Common.{◌≡◌, sym, refl, ap, ◌∙◌, arith}
+use Rattle.std.proofs.Common.{sym, ap, ◌∙◌, arith}
 use Rattle.sheet.specs.Drafts.{contents}
 use Rattle.sheet.specs.Reading.{accepted, reads}
 use Rattle.sheet.proofs.Ends.{exactly, only_these, all_these}

@@ -1,4 +1,4 @@
-use Rattle.std.proofs.Common.{◌≡◌, ◌-◌, length, take, sym, refl, ap, ◌∙◌}
+use Rattle.std.proofs.Common.{refl}
 use Rattle.numbers.specs.Model.{own_of, listed_of}
 use Rattle.responder.specs.Models.{state_of}
 use Rattle.responder.proofs.Switches.{copied, ready, reports_sent, turned_by}
