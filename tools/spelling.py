@@ -12,7 +12,10 @@ import re
 import sys
 
 DECLARED = re.compile(r'^((?:(?:abbrev|unfoldable|pub|record|data)\s+)*)([^\s(){}:.,;]+)\s*(?::\s|$|\{|\()')
+# a field, or a lemma in a module with parameters: each has `_` throughout
 FIELD = re.compile(r'^\s+pub\s+([^\s(){}:.,;]+)\s+:\s')
+WORD = re.compile(r'^\s+(?:abbrev|unfoldable)\s+(?:pub\s+)?([^\s(){}:.,;]+)\s+:\s')
+CONSTRUCTOR = re.compile(r'^\s+([^\s(){}:.,;]+)\s+:\s')
 KEYWORDS = {'use', 'module', 'unfolding', 'pub', 'mod', 'where', '--'}
 # What a lemma's name may join besides the repository's own words: those of the library.
 LIBRARY = set('length take drop append map set insert remove reverse put_mid count sum get_or cond eqb ltb leb'.split())
@@ -31,8 +34,11 @@ def declared():
     """The names that specs/ and proofs/ declare: words and types, and lemmas apart."""
     words, lemmas = set(), set()
     for path in antt_files():
+        in_data = False
         for line in open(path, encoding='utf-8'):
-            field = FIELD.match(line)
+            if line.strip() and not line[0].isspace():
+                in_data = re.match(r'(pub )?data ', line) is not None
+            field = FIELD.match(line) or WORD.match(line) or (in_data and CONSTRUCTOR.match(line))
             if field:
                 words.add(field.group(1))
                 continue

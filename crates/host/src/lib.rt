@@ -16,7 +16,6 @@ pub use table::Table;
 mod tests {
     use super::*;
     use message::{Refusal, Row};
-    use std::test::Fail;
 
     const PIANO: [u8; 5] = [0x7E, 1, 0, 0, 1];
 
@@ -137,7 +136,7 @@ mod tests {
     }
 
     #[test]
-    fn fixed_changes_nothing(rt: HostRuntime) -> Result<(), Fail> {
+    fn fixed_changes_nothing(rt: HostRuntime) {
         let rows = [row(0, 1, false), row(0, 2, true)];
         match Fixed::from_rows(&rows) {
             Ok(mut host) => {
@@ -148,12 +147,8 @@ mod tests {
                 assert!(rt; !host.plug(0, PIANO) && !host.pull(0, rows[0].id));
                 assert_eq!(rt; host.rows().len(), 2);
                 assert!(rt; !host.rows()[0].on && host.rows()[1].on);
-                Ok(())
             }
-            Err(_) => {
-                assert!(rt; false, "refused");
-                Ok(())
-            },
+            Err(_) => assert!(rt; false, "refused"),
         }
     }
 }

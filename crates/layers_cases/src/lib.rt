@@ -13,7 +13,6 @@ mod tests {
     use layers::{Holding, Member, Members, Pair, Pairs, Sets};
     use message::{Refusal, Row};
     use std::process::Abort;
-    use std::test::Fail;
 
     const FIRST: [u8; 5] = [1, 0, 0, 0, 0];
 
@@ -43,20 +42,20 @@ mod tests {
     }
 
     #[test]
-    fn a_held_rival(rt: HostRuntime) -> Result<(), Fail> {
+    fn a_held_rival(rt: HostRuntime) {
         let Ok(pairs) = Pairs::from_slice(&[Pair {
             address: 0,
             id: FIRST,
         }]) else {
             assert!(rt; false, "pairs");
-            return Ok(());
+            return;
         };
         let Ok(members) = Members::from_slice(&[
             Member { id: FIRST, set: 8 },
             Member { id: SECOND, set: 8 },
         ]) else {
             assert!(rt; false, "members");
-            return Ok(());
+            return;
         };
         let mut refusing = Sets::over(
             Holding::over(Desk::with(true, false, false), pairs),
@@ -68,7 +67,6 @@ mod tests {
             pairs,
         );
         second_goes_on(&rt, &mut allowing, true);
-        Ok(())
     }
 
     fn rows() -> [Row; 3] {
@@ -104,7 +102,7 @@ mod tests {
     }
 
     #[test]
-    fn piles_over_the_two_hosts(rt: HostRuntime) -> Result<(), Fail> {
+    fn piles_over_the_two_hosts(rt: HostRuntime) {
         let held = [Pair {
             address: 0,
             id: THIRD,
@@ -112,15 +110,15 @@ mod tests {
         let set = [Member { id: FIRST, set: 1 }, Member { id: SECOND, set: 1 }];
         let Ok(pairs) = Pairs::from_slice(&held) else {
             assert!(rt; false, "pairs");
-            return Ok(());
+            return;
         };
         let Ok(members) = Members::from_slice(&set) else {
             assert!(rt; false, "members");
-            return Ok(());
+            return;
         };
         let Ok(table) = Table::from_rows(&rows()) else {
             assert!(rt; false, "table");
-            return Ok(());
+            return;
         };
         play(
             &rt,
@@ -129,25 +127,24 @@ mod tests {
         );
         let Ok(fixed) = Fixed::from_rows(&rows()) else {
             assert!(rt; false, "fixed");
-            return Ok(());
+            return;
         };
         play(
             &rt,
             &mut Holding::over(Sets::over(fixed, members), pairs),
             false,
         );
-        Ok(())
     }
 
     #[test]
-    fn two_on_at_the_start(rt: HostRuntime) -> Result<(), Fail> {
+    fn two_on_at_the_start(rt: HostRuntime) {
         let Ok(members) = Members::from_slice(&[
             Member { id: FIRST, set: 1 },
             Member { id: SECOND, set: 1 },
             Member { id: THIRD, set: 1 },
         ]) else {
             assert!(rt; false, "members");
-            return Ok(());
+            return;
         };
         let mut sets = Sets::over(Desk::with(true, true, false), members);
         assert!(rt; !sets.switch(0, SECOND, true), "on already");
@@ -155,17 +152,16 @@ mod tests {
         assert!(rt; is_on(&sets, 0) & is_on(&sets, 1), "as they were");
         assert!(rt; sets.switch(0, THIRD, true));
         assert!(rt; !is_on(&sets, 0) & !is_on(&sets, 1) & is_on(&sets, 2));
-        Ok(())
     }
 
     #[test]
-    fn rows_named_below(rt: HostRuntime) -> Result<(), Fail> {
+    fn rows_named_below(rt: HostRuntime) {
         let Ok(members) = Members::from_slice(&[
             Member { id: FIRST, set: 1 },
             Member { id: SECOND, set: 1 },
         ]) else {
             assert!(rt; false, "members");
-            return Ok(());
+            return;
         };
         let mut sets = Sets::over(Desk::with(false, true, true), members);
         assert!(rt; sets.puts_off(0, FIRST, SECOND), "a rival");
@@ -173,7 +169,6 @@ mod tests {
         assert!(rt; !sets.puts_off(0, SECOND, THIRD), "in no set");
         assert!(rt; sets.switch(0, FIRST, true));
         assert!(rt; is_on(&sets, 0) & !is_on(&sets, 1) & !is_on(&sets, 2));
-        Ok(())
     }
 
     #[test]

@@ -6,7 +6,7 @@ use Rattle.std.proofs.lemmas.Bool.Decides.{nat_tests}
 use Rattle.message.specs.Bytes.{sevens}
 use Rattle.message.specs.Codes.{code}
 use Rattle.message.specs.Messages.{Fields, muid, encode, framed, fields}
-use Rattle.message.specs.Kinds.{Kind, discovery, discovery-reply, invalidation, profile-inquiry, profile-reply, set_on, set-off, enabled, disabled, added, removed, nak, other, kind, kind_by, least, too_short, count_at, two_lists, with_id}
+use Rattle.message.specs.Kinds.{Kind, discovery, discovery_reply, invalidation, profile_inquiry, profile_reply, set_on, set_off, enabled, disabled, added, removed, nak, other, kind, kind_by, least, too_short, count_at, two_lists, with_id}
 use Rattle.message.specs.Laws.{Of, InFront, LaidOut}
 use Rattle.message.specs.declared.sub_id.SubId.{SubId}
 use Rattle.message.proofs.Framing.{inner-low, framed_inside}
@@ -148,7 +148,7 @@ module _ (m : Fields) (low-bytes : (k : ℕ) → get_or m.body k 0 < 0x80) (vers
       let n : ℕ = count_at 0 m.body in
       let k : ℕ = count_at (2 + 5 * n) m.body in
       fork (LaidOut m) (leb (4 + 5 * n + 5 * k) (length m.body))
-      (profile-reply (take (5 * n) (drop 2 m.body)) (take (5 * k) (drop (4 + 5 * n) m.body))) other
+      (profile_reply (take (5 * n) (drop 2 m.body)) (take (5 * k) (drop (4 + 5 * n) m.body))) other
       (λ t.
       let long = leb-true (4 + 5 * n + 5 * k) (length m.body) t in (
         of SubId.ReplyToProfileInquiry h,
@@ -164,11 +164,11 @@ module _ (m : Fields) (low-bytes : (k : ℕ) → get_or m.body k 0 < 0x80) (vers
 
   by-sub : LaidOut m (kind_by m.sub m.body)
   by-sub =
-      fork (LaidOut m) _ profile-inquiry _ (λ t. of SubId.ProfileInquiry t)
+      fork (LaidOut m) _ profile_inquiry _ (λ t. of SubId.ProfileInquiry t)
       (λ _. fork (LaidOut m) _ (two_lists m.body) _ (λ t. listed t)
       (λ _. fork (LaidOut m) _ (set_on (take 5 m.body)) _
       (λ t. let n = setting SubId.SetProfileOn t refl in (of SubId.SetProfileOn t, front 5 m.body (either_way _ 5 7 5 _ (omega arith) (omega arith) n), n))
-      (λ _. fork (LaidOut m) _ (set-off (take 5 m.body)) _
+      (λ _. fork (LaidOut m) _ (set_off (take 5 m.body)) _
       (λ t. let n = setting SubId.SetProfileOff t refl in (of SubId.SetProfileOff t, front 5 m.body (either_way _ 5 7 5 _ (omega arith) (omega arith) n), n))
       (λ _. fork (LaidOut m) _ (with_id enabled m.body) _ (reported SubId.ProfileEnabledReport enabled (λ id p. p))
       (λ _. fork (LaidOut m) _ (with_id disabled m.body) _ (reported SubId.ProfileDisabledReport disabled (λ id p. p))
@@ -176,7 +176,7 @@ module _ (m : Fields) (low-bytes : (k : ℕ) → get_or m.body k 0 < 0x80) (vers
       (λ _. fork (LaidOut m) _ (with_id removed m.body) _ (reported SubId.ProfileRemovedReport removed (λ id p. p))
       (λ _. fork (LaidOut m) _ (discovery m.body) _
       (λ t. (of SubId.Discovery t, refl, choice _ 16 17 _ (at_least SubId.Discovery m (eqb-true _ _ t) enough)))
-      (λ _. fork (LaidOut m) _ (discovery-reply m.body) _
+      (λ _. fork (LaidOut m) _ (discovery_reply m.body) _
       (λ t. (of SubId.ReplyToDiscovery t, refl, choice _ 16 18 _ (at_least SubId.ReplyToDiscovery m (eqb-true _ _ t) enough)))
       (λ _. fork (LaidOut m) _ (invalidation (take 4 m.body)) _
       (λ t. (of SubId.InvalidateMuid t, front 4 m.body (let k = at_least SubId.InvalidateMuid m (eqb-true _ _ t) enough in omega arith)))

@@ -5,7 +5,7 @@ use Rattle.std.proofs.lemmas.Bool.{and_parts, and_from, or_cases, le-leb, le-ltb
 use Rattle.message.specs.Bytes.{sevens, is_address, is_id}
 use Rattle.message.specs.Codes.{code, status_code}
 use Rattle.message.specs.Messages.{Fields, muid, encode, framed, fields}
-use Rattle.message.specs.Kinds.{Kind, profile-reply, kind, kind_by, least, count_at, counted_lists, two_lists, with_id, enabled, disabled, added, removed, invalidation}
+use Rattle.message.specs.Kinds.{Kind, profile_reply, kind, kind_by, least, count_at, counted_lists, two_lists, with_id, enabled, disabled, added, removed, invalidation}
 use Rattle.message.specs.Reading.{refused, taken_apart, reads}
 use Rattle.message.specs.Rows.{keep, stands, part, ranged, all_ranged}
 use Rattle.message.specs.Sending.{everyone, sends, supports, channels, meant, ids_of, counted, profile_list}
@@ -265,17 +265,17 @@ module _ (xs ys : List Row) (f : Fives xs) (g : Fives ys) where
   whole-lists : leb (4 + 5 * length xs + 5 * length ys) (length both) ≡ true
   whole-lists = le-leb _ _ (omega (arith, length-append (counted xs) (counted ys), length-counted xs f, length-counted ys g))
 
-  lists_back : two_lists both ≡ profile-reply (ids_of xs) (ids_of ys)
+  lists_back : two_lists both ≡ profile_reply (ids_of xs) (ids_of ys)
   lists_back =
       ap (λ (n : ℕ). counted_lists n (count_at (2 + 5 * n) both) both) first_count
       ∙ ap (λ (k : ℕ). counted_lists (length xs) k both) second-count
       ∙ cond-true _ _ _ whole-lists
-      ∙ ap (λ (zs : List ℕ). profile-reply zs (take (5 * length ys) (drop (4 + 5 * length xs) both))) first-ids
-      ∙ ap (profile-reply (ids_of xs)) second-ids
+      ∙ ap (λ (zs : List ℕ). profile_reply zs (take (5 * length ys) (drop (4 + 5 * length xs) both))) first-ids
+      ∙ ap (profile_reply (ids_of xs)) second-ids
 
 pub profile_lists_back : (own to a : ℕ) (rows : List Row) → own < 0x10000000 → to < 0x10000000 → a < 0x80 → all_ranged rows ≡ true
     → length (encode (profile_list own to a rows)) ≤ 512
-    → reads (encode (profile_list own to a rows)) ≡ taken_apart (profile_list own to a rows) (profile-reply (ids_of (part a true rows)) (ids_of (part a false rows)))
+    → reads (encode (profile_list own to a rows)) ≡ taken_apart (profile_list own to a rows) (profile_reply (ids_of (part a true rows)) (ids_of (part a false rows)))
 profile_lists_back own to a rows o t h v few =
     let xs : List Row = part a true rows in
     let ys : List Row = part a false rows in
@@ -285,7 +285,7 @@ profile_lists_back own to a rows o t h v few =
     let m = length-append (counted xs) (counted ys) in
     let p = length-counted xs f in
     let q = length-counted ys g in
-    back (profile_list own to a rows) (profile-reply (ids_of xs) (ids_of ys))
+    back (profile_list own to a rows) (profile_reply (ids_of xs) (ids_of ys))
     (sends_good own a SubId.ReplyToProfileInquiry to _ o h (omega arith) t
     (sevens-append (counted xs) (counted ys) (sevens-counted xs f (omega arith)) (sevens-counted ys g (omega arith))))
     (omega arith)

@@ -7,12 +7,12 @@ use Rattle.message.specs.declared.sub_id.SubId.{SubId}
 -- the kinds, each with the part of the body that it holds
 pub data Kind : Type 0 where
   discovery : (body : List ℕ) → Kind
-  discovery-reply : (body : List ℕ) → Kind
+  discovery_reply : (body : List ℕ) → Kind
   invalidation : (target : List ℕ) → Kind
-  profile-inquiry : Kind
-  profile-reply : (on off : List ℕ) → Kind
+  profile_inquiry : Kind
+  profile_reply : (on off : List ℕ) → Kind
   set_on : (id : List ℕ) → Kind
-  set-off : (id : List ℕ) → Kind
+  set_off : (id : List ℕ) → Kind
   enabled : (id : List ℕ) → Kind
   disabled : (id : List ℕ) → Kind
   added : (id : List ℕ) → Kind
@@ -43,7 +43,7 @@ count_at k bs = slice_index bs k + slice_index bs (k + 1) * 0x80
 abbrev pub counted_lists : (on off : ℕ) → List ℕ → Kind
 counted_lists on off body =
     cond (nat_le (4 + 5 * on + 5 * off) (length body))
-    (profile-reply (take (5 * on) (drop 2 body)) (take (5 * off) (drop (4 + 5 * on) body))) other
+    (profile_reply (take (5 * on) (drop 2 body)) (take (5 * off) (drop (4 + 5 * on) body))) other
 
 abbrev pub two_lists : List ℕ → Kind
 two_lists body = counted_lists (count_at 0 body) (count_at (2 + 5 * count_at 0 body) body) body
@@ -54,16 +54,16 @@ with_id k body = cond (nat_le 5 (length body)) (k (take 5 body)) other
 
 abbrev pub kind_by : ℕ → List ℕ → Kind
 kind_by sub body =
-    cond (sub == code SubId.ProfileInquiry) profile-inquiry
+    cond (sub == code SubId.ProfileInquiry) profile_inquiry
     (cond (sub == code SubId.ReplyToProfileInquiry) (two_lists body)
     (cond (sub == code SubId.SetProfileOn) (set_on (take 5 body))
-    (cond (sub == code SubId.SetProfileOff) (set-off (take 5 body))
+    (cond (sub == code SubId.SetProfileOff) (set_off (take 5 body))
     (cond (sub == code SubId.ProfileEnabledReport) (with_id enabled body)
     (cond (sub == code SubId.ProfileDisabledReport) (with_id disabled body)
     (cond (sub == code SubId.ProfileAddedReport) (with_id added body)
     (cond (sub == code SubId.ProfileRemovedReport) (with_id removed body)
     (cond (sub == code SubId.Discovery) (discovery body)
-    (cond (sub == code SubId.ReplyToDiscovery) (discovery-reply body)
+    (cond (sub == code SubId.ReplyToDiscovery) (discovery_reply body)
     (cond (sub == code SubId.InvalidateMuid) (invalidation (take 4 body))
     (cond (sub == code SubId.Nak) (nak body) other)))))))))))
 

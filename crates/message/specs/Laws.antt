@@ -2,7 +2,7 @@
 use Rattle.std.specs.Prelude.{◌≡◌, ℕ, ◌*◌, ◌/◌, ◌%◌, ◌<◌, ◌≤◌, true, false, cond, List, [], ◌∷◌, ◌++◌, length, nat_le}
 use Rattle.message.specs.Codes.{code, status_code}
 use Rattle.message.specs.Messages.{Fields, muid, encode, framed, fields}
-use Rattle.message.specs.Kinds.{Kind, discovery, discovery-reply, invalidation, profile-inquiry, profile-reply, set_on, set-off, enabled, disabled, added, removed, nak, other, kind}
+use Rattle.message.specs.Kinds.{Kind, discovery, discovery_reply, invalidation, profile_inquiry, profile_reply, set_on, set_off, enabled, disabled, added, removed, nak, other, kind}
 use Rattle.message.specs.Reading.{taken_apart, reads}
 use Rattle.message.specs.Rows.{part, all_ranged}
 use Rattle.message.specs.Sending.{supports, meant, ids_of, profile_list}
@@ -14,7 +14,7 @@ use Rattle.message.specs.declared.sent.Sent.TheVariants.{Discovery, DiscoveryRep
 -- the kind of a message that is sent, with what it was given to hold
 abbrev pub given_kind : Sent → Kind
 given_kind (Discovery identity) = discovery (identity.bytes ++ (supports ++ 0x00 ∷ []))
-given_kind (DiscoveryReply to identity path) = discovery-reply (identity.bytes ++ (supports ++ path ∷ identity.block ∷ []))
+given_kind (DiscoveryReply to identity path) = discovery_reply (identity.bytes ++ (supports ++ path ∷ identity.block ∷ []))
 given_kind (InvalidateMuid target) = invalidation (muid target.number)
 given_kind (Enabled address id) = enabled id.bytes
 given_kind (Disabled address id) = disabled id.bytes
@@ -38,7 +38,7 @@ pub record ReadsBack : Type 0 where
   pub messages : (own : ℕ) (s : Sent) → own < 0x10000000 → InRange s → reads (encode (meant own s)) ≡ taken_apart (meant own s) (given_kind s)
   pub profile_lists : (own to a : ℕ) (rows : List Row) → own < 0x10000000 → to < 0x10000000 → a < 0x80 → all_ranged rows ≡ true
       → length (encode (profile_list own to a rows)) ≤ 512
-      → reads (encode (profile_list own to a rows)) ≡ taken_apart (profile_list own to a rows) (profile-reply (ids_of (part a true rows)) (ids_of (part a false rows)))
+      → reads (encode (profile_list own to a rows)) ≡ taken_apart (profile_list own to a rows) (profile_reply (ids_of (part a true rows)) (ids_of (part a false rows)))
 
 -- a message of that Sub-ID, with a version
 abbrev pub Of : SubId → Fields → Type 0
@@ -55,14 +55,14 @@ Counts n ids = length ids ≡ 5 * n
 -- the layout of each kind
 abbrev pub LaidOut : Fields → Kind → Type 0
 LaidOut m (discovery body) = Of SubId.Discovery m × (body ≡ m.body) × (cond (nat_le m.version 1) 16 17 ≤ length body)
-LaidOut m (discovery-reply body) = Of SubId.ReplyToDiscovery m × (body ≡ m.body) × (cond (nat_le m.version 1) 16 18 ≤ length body)
+LaidOut m (discovery_reply body) = Of SubId.ReplyToDiscovery m × (body ≡ m.body) × (cond (nat_le m.version 1) 16 18 ≤ length body)
 LaidOut m (invalidation target) = Of SubId.InvalidateMuid m × InFront 4 target m.body
-LaidOut m profile-inquiry = Of SubId.ProfileInquiry m
-LaidOut m (profile-reply on off) =
+LaidOut m profile_inquiry = Of SubId.ProfileInquiry m
+LaidOut m (profile_reply on off) =
     Of SubId.ReplyToProfileInquiry m × ((n k : ℕ) × Counts n on × Counts k off × ((later : List ℕ)
     × (m.body ≡ n % 0x80 ∷ n / 0x80 ∷ (on ++ (k % 0x80 ∷ k / 0x80 ∷ (off ++ later))))))
 LaidOut m (set_on id) = Of SubId.SetProfileOn m × InFront 5 id m.body × (cond (nat_le m.version 1) 5 7 ≤ length m.body)
-LaidOut m (set-off id) = Of SubId.SetProfileOff m × InFront 5 id m.body × (cond (nat_le m.version 1) 5 7 ≤ length m.body)
+LaidOut m (set_off id) = Of SubId.SetProfileOff m × InFront 5 id m.body × (cond (nat_le m.version 1) 5 7 ≤ length m.body)
 LaidOut m (enabled id) = Of SubId.ProfileEnabledReport m × InFront 5 id m.body
 LaidOut m (disabled id) = Of SubId.ProfileDisabledReport m × InFront 5 id m.body
 LaidOut m (added id) = Of SubId.ProfileAddedReport m × InFront 5 id m.body

@@ -1,7 +1,7 @@
 -- What reading bytes gives.
 use Rattle.std.specs.Prelude.{ℕ, cond, List, Ok, Err, Result}
 use Rattle.message.specs.Messages.{Fields, framed, fields}
-use Rattle.message.specs.Kinds.{Kind, discovery, discovery-reply, invalidation, profile-inquiry, profile-reply, set_on, set-off, enabled, disabled, added, removed, nak, other, kind}
+use Rattle.message.specs.Kinds.{Kind, discovery, discovery_reply, invalidation, profile_inquiry, profile_reply, set_on, set_off, enabled, disabled, added, removed, nak, other, kind}
 use Rattle.message.specs.declared.refusal.Refusal.{Refusal}
 use Rattle.message.specs.declared.message.Message.{Message}
 use Rattle.message.specs.declared.message.Content.{Content}
@@ -22,12 +22,12 @@ reads bs = cond (framed bs) (taken_apart (fields bs) (kind (fields bs))) (refuse
 -- the kind that a content is, its parts as lists of bytes
 abbrev pub kind_of : Content → Kind
 kind_of (Discovery body) = discovery body.now
-kind_of (DiscoveryReply body) = discovery-reply body.now
+kind_of (DiscoveryReply body) = discovery_reply body.now
 kind_of (InvalidateMuid target) = invalidation target.now
-kind_of ProfileInquiry = profile-inquiry
-kind_of (ProfileReply on off) = profile-reply on.now off.now
+kind_of ProfileInquiry = profile_inquiry
+kind_of (ProfileReply on off) = profile_reply on.now off.now
 kind_of (SetOn id) = set_on id.now
-kind_of (SetOff id) = set-off id.now
+kind_of (SetOff id) = set_off id.now
 kind_of (Enabled id) = enabled id.now
 kind_of (Disabled id) = disabled id.now
 kind_of (Added id) = added id.now

@@ -1,16 +1,16 @@
 -- How large the parts of a message are: what callers may index and send on.
 use Rattle.std.specs.Prelude.{◌≡◌, ℕ, ◌<◌, ◌≤◌, length}
-use Rattle.message.specs.Kinds.{Kind, discovery, discovery-reply, invalidation, profile-inquiry, profile-reply, set_on, set-off, enabled, disabled, added, removed, nak, other}
+use Rattle.message.specs.Kinds.{Kind, discovery, discovery_reply, invalidation, profile_inquiry, profile_reply, set_on, set_off, enabled, disabled, added, removed, nak, other}
 use Rattle.message.specs.Reading.{Reading, refused, message}
 
 abbrev pub Shaped : Kind → Type 0
 Shaped (discovery body) = 16 ≤ length body
-Shaped (discovery-reply body) = 16 ≤ length body
+Shaped (discovery_reply body) = 16 ≤ length body
 Shaped (invalidation target) = length target ≡ 4
-Shaped profile-inquiry = Unit {0}
-Shaped (profile-reply on off) = Unit {0}
+Shaped profile_inquiry = Unit {0}
+Shaped (profile_reply on off) = Unit {0}
 Shaped (set_on id) = length id ≡ 5
-Shaped (set-off id) = length id ≡ 5
+Shaped (set_off id) = length id ≡ 5
 Shaped (enabled id) = length id ≡ 5
 Shaped (disabled id) = length id ≡ 5
 Shaped (added id) = length id ≡ 5

@@ -3,7 +3,7 @@ use Rattle.std.proofs.Common.{◌≡◌, ℕ, ◌+◌, Bool, true, false, cond, 
 use Rattle.std.proofs.lemmas.Bool.{or_cases, both_ways, eqb-true, le-ltb, ne_eqb}
 use Rattle.message.specs.Bytes.{is_address}
 use Rattle.message.specs.Messages.{Fields}
-use Rattle.message.specs.Kinds.{Kind, discovery, discovery-reply, invalidation, profile-inquiry, profile-reply, set_on, set-off, enabled, disabled, added, removed, nak, other, kind}
+use Rattle.message.specs.Kinds.{Kind, discovery, discovery_reply, invalidation, profile_inquiry, profile_reply, set_on, set_off, enabled, disabled, added, removed, nak, other, kind}
 use Rattle.message.specs.Reading.{kind_of}
 use Rattle.message.specs.Shapes.{Shaped}
 use Rattle.message.specs.Sending.{discover_reply, profile_list}
@@ -29,12 +29,12 @@ module _ (d : Identity) (own : ℕ) (others : List ℕ) (l : List Row) where
       cond (eqb q.address 0x7F)
       (send (discover_reply d own q.source (cond (leb q.version 1) 0x00 (get_or body 16 0)) ∷ []) own (noted own q.source others))
       (denied NakStatus.Malformed q)
-  by_kind q (discovery-reply body) = denied NakStatus.Malformed q
+  by_kind q (discovery_reply body) = denied NakStatus.Malformed q
   by_kind q (invalidation target) = denied NakStatus.Malformed q
-  by_kind q profile-inquiry = send (map (λ a. profile_list own q.source a l) (replied_at l q.address)) own others
-  by_kind q (profile-reply on off) = denied NakStatus.Malformed q
+  by_kind q profile_inquiry = send (map (λ a. profile_list own q.source a l) (replied_at l q.address)) own others
+  by_kind q (profile_reply on off) = denied NakStatus.Malformed q
   by_kind q (set_on id) = cond (listed l q.address id) (turn q.address id true) (denied NakStatus.NoSuchProfile q)
-  by_kind q (set-off id) = cond (listed l q.address id) (turn q.address id false) (denied NakStatus.NoSuchProfile q)
+  by_kind q (set_off id) = cond (listed l q.address id) (turn q.address id false) (denied NakStatus.NoSuchProfile q)
   by_kind q (enabled id) = denied NakStatus.Malformed q
   by_kind q (disabled id) = denied NakStatus.Malformed q
   by_kind q (added id) = denied NakStatus.Malformed q
@@ -178,18 +178,18 @@ module _ (d : Identity) (own : ℕ) (others : List ℕ) (l : List Row) (m : Mess
   off_passed id x c h =
       switched id.now false x h ∙ ap (λ (k : Content). by_kind d own others l q (kind_of k)) (sym c) ∙ sym passed_comes
 
-  abbrev found-reply : (a version source : ℕ) → List ℕ → Plan → Plan
-  found-reply a version source body x =
+  abbrev found_reply : (a version source : ℕ) → List ℕ → Plan → Plan
+  found_reply a version source body x =
       cond (eqb a 0x7F) (send (discover_reply d own source (cond (leb version 1) 0x00 (get_or body 16 0)) ∷ []) own (noted own source others)) x
 
   pub discovery_passed : (body : _) (x : Plan) → m.content ≡ Discovery body
-      → x ≡ found-reply m.address m.version to body.now (denying d own others l NakStatus.Malformed (header_of m to))
+      → x ≡ found_reply m.address m.version to body.now (denying d own others l NakStatus.Malformed (header_of m to))
       → x ≡ inquiring d own others l (fault l q) q
   discovery_passed body x c h =
-      h ∙ ap (found-reply m.address m.version to body.now) (denied-same NakStatus.Malformed)
-      ∙ ap (λ (n : ℕ). found-reply n m.version to body.now (denying d own others l NakStatus.Malformed q)) w.address
-      ∙ ap (λ (n : ℕ). found-reply q.address n to body.now (denying d own others l NakStatus.Malformed q)) w.version
-      ∙ ap (λ (n : ℕ). found-reply q.address q.version n body.now (denying d own others l NakStatus.Malformed q)) e
+      h ∙ ap (found_reply m.address m.version to body.now) (denied-same NakStatus.Malformed)
+      ∙ ap (λ (n : ℕ). found_reply n m.version to body.now (denying d own others l NakStatus.Malformed q)) w.address
+      ∙ ap (λ (n : ℕ). found_reply q.address n to body.now (denying d own others l NakStatus.Malformed q)) w.version
+      ∙ ap (λ (n : ℕ). found_reply q.address q.version n body.now (denying d own others l NakStatus.Malformed q)) e
       ∙ ap (λ (k : Content). by_kind d own others l q (kind_of k)) (sym c) ∙ sym passed_comes
 
   pub other_passed : (x : Plan) → (m.content ≡ ProfileInquiry → ⊥) → ((id : _) → m.content ≡ SetOn id → ⊥) → ((id : _) → m.content ≡ SetOff id → ⊥)

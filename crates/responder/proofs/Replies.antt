@@ -110,21 +110,21 @@ tallies_few low xs (r ∷ l) c =
     omega (arith, tallies_more xs r l, once r.address low xs c)
 
 module _ (own to : ℕ) (l : List Row) (v : all_ranged l ≡ true) where
-  abbrev pub reply-at : ℕ → Fields
-  reply-at a = profile_list own to a l
+  abbrev pub reply_at : ℕ → Fields
+  reply_at a = profile_list own to a l
 
   -- the replies of some addresses, and a last one
-  replies-long : (xs : List ℕ) (z : ℕ) → length (bytes (map reply-at (having_row l xs ++ z ∷ []))) ≤ 19 * (1 + length xs) + 5 * (tallies xs l + tally z l)
+  replies-long : (xs : List ℕ) (z : ℕ) → length (bytes (map reply_at (having_row l xs ++ z ∷ []))) ≤ 19 * (1 + length xs) + 5 * (tallies xs l + tally z l)
   unfolding tallies
   replies-long [] z =
-      let n = length-append (encode (reply-at z)) [] in
+      let n = length-append (encode (reply_at z)) [] in
       omega (arith, n, length_reply own to z l v)
   replies-long (a ∷ xs) z = go (has_row l a) (replies-long xs z)
     where
-      go : (b : Bool) → length (bytes (map reply-at (having_row l xs ++ z ∷ []))) ≤ 19 * (1 + length xs) + 5 * (tallies xs l + tally z l)
-          → length (bytes (map reply-at (cond b (a ∷ having_row l xs) (having_row l xs) ++ z ∷ []))) ≤ 19 * (1 + length (a ∷ xs)) + 5 * (tallies (a ∷ xs) l + tally z l)
+      go : (b : Bool) → length (bytes (map reply_at (having_row l xs ++ z ∷ []))) ≤ 19 * (1 + length xs) + 5 * (tallies xs l + tally z l)
+          → length (bytes (map reply_at (cond b (a ∷ having_row l xs) (having_row l xs) ++ z ∷ []))) ≤ 19 * (1 + length (a ∷ xs)) + 5 * (tallies (a ∷ xs) l + tally z l)
       go true h =
-          let n = length-append (encode (reply-at a)) (bytes (map reply-at (having_row l xs ++ z ∷ []))) in
+          let n = length-append (encode (reply_at a)) (bytes (map reply_at (having_row l xs ++ z ∷ []))) in
           omega (arith, n, length_reply own to a l v)
       go false h = omega arith
 

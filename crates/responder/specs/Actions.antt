@@ -28,19 +28,19 @@ sorted sub version n =
     Sorted.Inquiry
 
 module _ (d : Identity) (own : ℕ) (others : List ℕ) (l : List Row) (draw : ℕ) where
-  abbrev pub action-plan : Action → Plan
-  action-plan GiveUpNumber = send (invalidate own own ∷ discover d (renewed own others draw) ∷ []) (renewed own others draw) others
-  action-plan ChooseNumber = send (discover d (renewed own others draw) ∷ []) (renewed own others draw) others
-  action-plan (Note number) = send [] own (noted own number others)
-  action-plan (Forget number) = send [] own (forgotten number others)
-  action-plan Nothing = send [] own others
-  action-plan (Deny to address sub status) = send (nak_reply own to.number address.byte sub status ∷ []) own others
-  action-plan (Discovered from path) = send (discover_reply d own from.number path ∷ []) own (noted own from.number others)
-  action-plan (Lists to address) = send (map (λ a. profile_list own to.number a l) (replied_at l address.byte)) own others
-  action-plan (Switch address id on) = turn address.byte id.bytes on
+  abbrev pub action_plan : Action → Plan
+  action_plan GiveUpNumber = send (invalidate own own ∷ discover d (renewed own others draw) ∷ []) (renewed own others draw) others
+  action_plan ChooseNumber = send (discover d (renewed own others draw) ∷ []) (renewed own others draw) others
+  action_plan (Note number) = send [] own (noted own number others)
+  action_plan (Forget number) = send [] own (forgotten number others)
+  action_plan Nothing = send [] own others
+  action_plan (Deny to address sub status) = send (nak_reply own to.number address.byte sub status ∷ []) own others
+  action_plan (Discovered from path) = send (discover_reply d own from.number path ∷ []) own (noted own from.number others)
+  action_plan (Lists to address) = send (map (λ a. profile_list own to.number a l) (replied_at l address.byte)) own others
+  action_plan (Switch address id on) = turn address.byte id.bytes on
 
   abbrev pub decided : Result Action Refusal → Plan
-  decided (Ok action) = action-plan action
+  decided (Ok action) = action_plan action
   decided (Err e) = refuse e
 
 -- the header of a message, without its body

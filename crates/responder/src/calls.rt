@@ -1,7 +1,7 @@
 //! The calls of a responder.
 ghost use Rattle.std.specs.Prelude.{◌≡◌, ℕ, ◌%◌, ◌≤◌, [], length, Ok};
 ghost use Rattle.numbers.specs.Model.{own_of, listed_of};
-ghost use Rattle.responder.specs.Actions.{action-plan};
+ghost use Rattle.responder.specs.Actions.{action_plan};
 ghost use Rattle.responder.specs.Models.{state_of};
 ghost use Rattle.responder.specs.Plans.{announcing, taking};
 ghost use Rattle.responder.specs.Steps.{outcome, Done, Rest, Turned};
@@ -77,7 +77,7 @@ impl<P: Host> Responder<P> {
     /// Does what was decided.
     fn act(&mut self, action: Action, draw: u32, answer: &mut [u8]) -> Result<usize, Refusal>
         requires { 1024 ≤ length answer.old }
-        ensures does { Done P.Host.listing P.Host.consents P.Host.fixed P.Host.keeps (action-plan self.old.identity (own_of self.old.numbers) (listed_of self.old.numbers) (P.Host.listing self.old.host) draw action) (state_of self.old) (outcome result answer.new) (state_of self.new) }
+        ensures does { Done P.Host.listing P.Host.consents P.Host.fixed P.Host.keeps (action_plan self.old.identity (own_of self.old.numbers) (listed_of self.old.numbers) (P.Host.listing self.old.host) draw action) (state_of self.old) (outcome result answer.new) (state_of self.new) }
         ensures rest { Rest result answer.old answer.new }
         ensures same { self.new.identity ≡ self.old.identity }
     {

@@ -10,7 +10,7 @@ ghost use Rattle.message.specs.declared.row.Row.{Row};
 ghost use Rattle.host.specs.Rows.{has as listed, Sound};
 ghost use Rattle.message.specs.Sending.{discover, discover_reply, invalidate};
 ghost use Rattle.numbers.specs.Device.{forgotten, has, noted, renewed};
-ghost use Rattle.responder.specs.Actions.{action-plan, decided, header_of, sorted, Shows};
+ghost use Rattle.responder.specs.Actions.{action_plan, decided, header_of, sorted, Shows};
 ghost use Rattle.responder.specs.Inquiries.{fault, for_us_by, supported, target};
 ghost use Rattle.responder.specs.Plans.{denying, inquiring, opened, refuse, send, turn};
 
@@ -183,7 +183,7 @@ fn target_of(part: &[u8]) -> u32
 
 /// What to do where a MUID was invalidated.
 fn invalidated(own: u32, m: Message<'_>) -> Action
-    ensures { (d : Identity) (others : List ℕ) (l : List Row) (draw : ℕ) (q : Fields) → Shows m.entry q → q.sub ≡ 0x7E → (q.version == 0) ≡ false → too_short q ≡ false → action-plan d own others l draw result ≡ (if nat_eq (target q) own then send (discover d (renewed own others draw) ∷ []) (renewed own others draw) others else send [] own (forgotten (target q) others)) }
+    ensures { (d : Identity) (others : List ℕ) (l : List Row) (draw : ℕ) (q : Fields) → Shows m.entry q → q.sub ≡ 0x7E → (q.version == 0) ≡ false → too_short q ≡ false → action_plan d own others l draw result ≡ (if nat_eq (target q) own then send (discover d (renewed own others draw) ∷ []) (renewed own others draw) others else send [] own (forgotten (target q) others)) }
 {
     match m.content {
         Content::InvalidateMuid(part) => {

@@ -1,6 +1,6 @@
 use Rattle.std.proofs.Common.{refl, ap}
 use Rattle.numbers.specs.Model.{own_of, listed_of}
-use Rattle.responder.specs.Actions.{action-plan}
+use Rattle.responder.specs.Actions.{action_plan}
 use Rattle.responder.specs.Models.{state_of}
 use Rattle.responder.proofs.Replies.{lists_sent}
 use Rattle.responder.proofs.Sendings.{done_send}
@@ -16,7 +16,7 @@ returns-in-List g c =
     record {
       does =
           done_send g.P.Host.listing g.P.Host.consents g.P.Host.fixed g.P.Host.keeps _ _ own others (state_of c.args.self.now) (state_of c.args.self.now) c.args.answer.now
-          _ c.write_lists.new.answer (ap (action-plan c.args.self.now.identity own others l c.args.draw) c.in-List.is) t refl;
+          _ c.write_lists.new.answer (ap (action_plan c.args.self.now.identity own others l c.args.draw) c.in-List.is) t refl;
       rest = t.rest;
       same = refl;
     }
