@@ -1,7 +1,7 @@
 -- Rows of one set that are on at one address, over a switch, a plug and a pull through the sets layer.
 use Rattle.std.proofs.Common.{◌≡◌, ℕ, ◌+◌, ◌<◌, ◌≤◌, Bool, true, false, cond, not, ◌&&◌, eqb, ltb, List, [], ◌∷◌, map, Some, None, Option, sym, refl, subst, arith}
 use Rattle.std.specs.Str.{bytes_eq}
-use Rattle.std.specs.List.{AllByRecursion as All}
+use Rattle.std.specs.List.{AllByRecursion}
 use Rattle.std.proofs.lemmas.Bool.{and_parts, and_from, or_left, or_right, eqb-true, lt-ltb, true≢false, both_ways, cond_both}
 use Rattle.std.proofs.lemmas.Slice.Eq.{bytes_eq-Decides}
 use Rattle.rising.specs.Order.{before}
@@ -127,11 +127,11 @@ module _ (ms : List Member) (a : ℕ) (i : List ℕ) (names : List ℕ → Bool)
   abbrev Off : Row → Type 0
   Off r = rival ms a i r ≡ true → names r.id ≡ true
 
-  alone-count : (l : List Row) → ltb 0 (set_of ms i) ≡ true → All Off l → count_on ms a (set_of ms i) (map (turned a i true names) l) ≤ keyed_count a i l
+  alone-count : (l : List Row) → ltb 0 (set_of ms i) ≡ true → AllByRecursion Off l → count_on ms a (set_of ms i) (map (turned a i true names) l) ≤ keyed_count a i l
   alone-count [] z h = omega arith
   alone-count (r ∷ l) z (h, hs) = omega (arith, alone-go r (same a i r) refl z h, alone-count l z hs)
 
-  on_go : (l : List Row) (a' g : ℕ) (x : Bool) → (eqb a' a && eqb g (set_of ms i)) ≡ x → Distinct l → All Off l → 0 < g
+  on_go : (l : List Row) (a' g : ℕ) (x : Bool) → (eqb a' a && eqb g (set_of ms i)) ≡ x → Distinct l → AllByRecursion Off l → 0 < g
       → count_on ms a' g l ≤ 1 → count_on ms a' g (map (turned a i true names) l) ≤ 1
   on_go l a' g true e d h pos le =
       let p = and_parts (eqb a' a) (eqb g (set_of ms i)) e in
@@ -141,7 +141,7 @@ module _ (ms : List Member) (a : ℕ) (i : List ℕ) (names : List ℕ → Bool)
       rw (same-a, same-g) (omega (arith, alone-count l (lt-ltb 0 (set_of ms i) some) h, one_row a i l d))
   on_go l a' g false e d h pos le = omega (arith, apart-count a' g l e)
 
-  pub switch_one : (on : Bool) (l : List Row) → Distinct l → (on ≡ true → All Off l) → AtMostOne ms l → AtMostOne ms (map (turned a i on names) l)
+  pub switch_one : (on : Bool) (l : List Row) → Distinct l → (on ≡ true → AllByRecursion Off l) → AtMostOne ms l → AtMostOne ms (map (turned a i on names) l)
   switch_one true l d h one = λ a' g pos. on_go l a' g (eqb a' a && eqb g (set_of ms i)) refl d (h refl) pos (one a' g pos)
   switch_one false l d h one = λ a' g pos. omega (arith, off-count a' g l, one a' g pos)
 
@@ -151,15 +151,15 @@ module _ (ms : List Member) (a : ℕ) (i : List ℕ) where
   abbrev Named : List Row → Row → Type 0
   Named l r = rival ms a i r ≡ true → any (λ x. rival ms a i x && bytes_eq r.id x.id) l ≡ true
 
-  named_more : (y : Row) (l xs : List Row) → All (Named l) xs → All (Named (y ∷ l)) xs
+  named_more : (y : Row) (l xs : List Row) → AllByRecursion (Named l) xs → AllByRecursion (Named (y ∷ l)) xs
   named_more y l [] h = tt
   named_more y l (r ∷ xs) (h, hs) = ((λ e. or_right _ _ (h e)), named_more y l xs hs)
 
-  named : (l : List Row) → All (Named l) l
+  named : (l : List Row) → AllByRecursion (Named l) l
   named [] = tt
   named (r ∷ l) = ((λ e. or_left _ _ (and_from _ _ e ((bytes_eq-Decides r.id r.id).1 refl))), named_more r l l (named l))
 
-  off-all : (c : Consents) (l xs : List Row) → set_on ms l c a i ≡ true → All (Named l) xs → All (Off ms a i ((setted ms l c).names a i)) xs
+  off-all : (c : Consents) (l xs : List Row) → set_on ms l c a i ≡ true → AllByRecursion (Named l) xs → AllByRecursion (Off ms a i ((setted ms l c).names a i)) xs
   off-all c l [] s h = tt
   off-all c l (r ∷ xs) s (h, hs) = ((λ e. and_from _ _ s (or_right _ _ (h e))), off-all c l xs s hs)
 

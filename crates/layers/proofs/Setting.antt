@@ -1,6 +1,6 @@
 -- Rivals are put off one by one below, and then the on below is the on of the sets layer.
 use Rattle.std.proofs.Common.{◌≡◌, ℕ, suc, ◌+◌, ◌<◌, Bool, true, false, cond, not, ◌&&◌, ◌||◌, eqb, List, [], ◌∷◌, map, length, get_or, Some, Option, sym, refl, ap, ◌∙◌, subst, ⊎_elim, arith, below_more}
-use Rattle.std.specs.Str.{bytes_eq as sameBytes}
+use Rattle.std.specs.Str.{bytes_eq}
 use Rattle.std.proofs.lemmas.List.{length-map, get_or-map, get_or_default}
 use Rattle.std.proofs.lemmas.Bool.{or_left, or_right, or_cases, or_parts, and_parts, and_from, and_left, and_right, not-true, not-false, not_from_false, eqb-true, both_ways, cases_Bool}
 use Rattle.std.proofs.lemmas.Slice.Eq.{bytes_eq-Decides}
@@ -18,10 +18,10 @@ use Rattle.layers.proofs.Lookups.{look_at, any_at, none_at, any_comp, any_less, 
 abbrev pub no_row : Row
 no_row = row 0 [] false
 
-bytes_eq : (i j : List ℕ) → sameBytes i j ≡ true → i ≡ j
-bytes_eq i j h = (bytes_eq-Decides i j).0 h
+eq_from_bytes : (i j : List ℕ) → bytes_eq i j ≡ true → i ≡ j
+eq_from_bytes i j h = (bytes_eq-Decides i j).0 h
 
-bytes_refl : (i : List ℕ) → sameBytes i i ≡ true
+bytes_refl : (i : List ℕ) → bytes_eq i i ≡ true
 bytes_refl i = (bytes_eq-Decides i i).1 refl
 
 and_second : (x y : Bool) → (x && y) ≡ false → x ≡ true → y ≡ false
@@ -37,7 +37,7 @@ rival_from ms a i r q = and_from _ _ q.here (and_from _ _ q.on (and_from _ _ q.j
 
 -- the ID is that of a rival
 abbrev rivals : List Member → List Row → ℕ → List ℕ → List ℕ → Bool
-rivals ms l a i j = any (λ r. rival ms a i r && sameBytes j r.id) l
+rivals ms l a i j = any (λ r. rival ms a i r && bytes_eq j r.id) l
 
 on-parts : (ms : List Member) (l : List Row) (c : Consents) (a : ℕ) (i : List ℕ) → set_on ms l c a i ≡ true
     → (c.on a i ≡ true) × (any (λ r. rival ms a i r && not (c.off a r.id)) l ≡ false)
@@ -59,8 +59,8 @@ joins false p s o = refl
 
 -- one more ID put off
 turned-cleared : (a : ℕ) (ids : List ℕ → Bool) (j : List ℕ) (names : List ℕ → Bool) (r : Row)
-    → turned a j false names (cleared a ids r) ≡ cleared a (λ m. ids m || sameBytes j m) r
-turned-cleared a ids j names r = ap (row r.address r.id) (joins (eqb a r.address) (ids r.id) (sameBytes j r.id) r.on)
+    → turned a j false names (cleared a ids r) ≡ cleared a (λ m. ids m || bytes_eq j m) r
+turned-cleared a ids j names r = ap (row r.address r.id) (joins (eqb a r.address) (ids r.id) (bytes_eq j r.id) r.on)
 
 -- a row that is off stays off
 off_bits : (k b o : Bool) (x y : Option Bool) → differs (cond k (Some o) x) true ≡ true → (differs x true ≡ true → differs y true ≡ true)
@@ -142,21 +142,21 @@ module _ (ms : List Member) (l : List Row) (c : Consents) (f : Bool) (a : ℕ) (
         let g : goes l' c' a x.id false ≡ true = and_from _ _ (q.off x.id left free) (ap (λ (b : Option Bool). differs b false) seen) in
         let K : Kept a x.id c' c'' = sx.kept g refl in
         record {
-          ids = λ m. ids m || sameBytes x.id m;
+          ids = λ m. ids m || bytes_eq x.id m;
           rows =
               (rw g at sx.rows) ∙ ap (map (turned a x.id false (c'.names a x.id))) q.rows
-              ∙ map_comp (turned a x.id false (c'.names a x.id)) (cleared a ids) (cleared a (λ m. ids m || sameBytes x.id m))
+              ∙ map_comp (turned a x.id false (c'.names a x.id)) (cleared a ids) (cleared a (λ m. ids m || bytes_eq x.id m))
               (turned-cleared a ids x.id (c'.names a x.id)) l;
           picks = λ j y.
               ⊎_elim (q.picks j)
               (λ z.
-              subst (λ (m : List ℕ). rivals ms l a i m ≡ true) (bytes_eq x.id j z)
-              (any_at (λ r. rival ms a i r && sameBytes x.id r.id) l k d lk (and_from _ _ rx (bytes_refl x.id))))
+              subst (λ (m : List ℕ). rivals ms l a i m ≡ true) (eq_from_bytes x.id j z)
+              (any_at (λ r. rival ms a i r && bytes_eq x.id r.id) l k d lk (and_from _ _ rx (bytes_refl x.id))))
               (or_cases _ _ y);
           front = λ m e lt.
-              below_more (λ n. rival ms a i (get_or l n e) ≡ true → (ids (get_or l n e).id || sameBytes x.id (get_or l n e).id) ≡ true) k
+              below_more (λ n. rival ms a i (get_or l n e) ≡ true → (ids (get_or l n e).id || bytes_eq x.id (get_or l n e).id) ≡ true) k
               (λ n ln y. or_left _ _ (q.front n e ln y))
-              (λ _. or_right _ _ (ap (λ (r : Row). sameBytes x.id r.id) (get_or_default l k e d lk) ∙ bytes_refl x.id))
+              (λ _. or_right _ _ (ap (λ (r : Row). bytes_eq x.id r.id) (get_or_default l k e d lk) ∙ bytes_refl x.id))
               m lt;
           on = K.on a i (and_right _ _ (bytes_turn i x.id vx.other)) q.on;
           off = λ j n y. let z = or_parts _ _ n in K.off a j (and_right _ _ z.1) (q.off j z.0 y);
@@ -189,7 +189,7 @@ module _ (ms : List Member) (l : List Row) (c : Consents) (f : Bool) (a : ℕ) (
       ⊎_elim
       (λ y.
       let p = and_parts _ _ y in
-      subst (λ (m : List ℕ). q.ids m ≡ true) (sym (bytes_eq j r.id p.1)) (h 0 r (omega arith) p.0))
+      subst (λ (m : List ℕ). q.ids m ≡ true) (sym (eq_from_bytes j r.id p.1)) (h 0 r (omega arith) p.0))
       (λ y. all-off xs (λ m d lt. h (suc m) d (omega arith)) j y)
       (or_cases _ _ t)
 
@@ -253,14 +253,14 @@ module _ (ms : List Member) (l : List Row) (c : Consents) (a : ℕ) (i : List �
       (λ (n : (same a i r ≡ false)).
       let rx : rival ms b j r ≡ true = ap (rival ms b j) (sym (turned-other a i names r n)) ∙ p.0 in
       let v = rival-parts ms b j r rx in
-      let away : (eqb a b && sameBytes i r.id) ≡ false = subst (λ (m : ℕ). (eqb a m && sameBytes i r.id) ≡ false) (sym (eqb-true b r.address v.here)) n in
+      let away : (eqb a b && bytes_eq i r.id) ≡ false = subst (λ (m : ℕ). (eqb a m && bytes_eq i r.id) ≡ false) (sym (eqb-true b r.address v.here)) n in
       ⊎_elim
       (λ (o : (c.off b r.id ≡ true)). absurd (both_ways _ (not-true _ p.1) (K.off b r.id away o)))
       (λ (o : (c.off b r.id ≡ false)). and_from _ _ rx (not_from_false _ o))
       (cases_Bool (c.off b r.id)))
       (cases_Bool (same a i r))
 
-  kept_on : (b : ℕ) (j : List ℕ) → (eqb a b && sameBytes i j) ≡ false → set_on ms l c b j ≡ true → set_on ms (map (turned a i false names) l) c' b j ≡ true
+  kept_on : (b : ℕ) (j : List ℕ) → (eqb a b && bytes_eq i j) ≡ false → set_on ms l c b j ≡ true → set_on ms (map (turned a i false names) l) c' b j ≡ true
   kept_on b j ne y =
       let u = on-parts ms l c b j y in
       let p : Row → Bool = λ r. rival ms b j r && not (c'.off b r.id) in
@@ -270,30 +270,30 @@ module _ (ms : List Member) (l : List Row) (c : Consents) (a : ℕ) (i : List �
       ∙ any_less (λ r. rival ms b j r && not (c.off b r.id)) (λ r. p (turned a i false names r)) (blocked-before b j) l u.1))
 
   -- another row's ID is a rival's as before
-  kept-rival : (b : ℕ) (j m : List ℕ) → (eqb a b && sameBytes i m) ≡ false → (r : Row)
-      → (rival ms b j (turned a i false names r) && sameBytes m (turned a i false names r).id) ≡ (rival ms b j r && sameBytes m r.id)
+  kept-rival : (b : ℕ) (j m : List ℕ) → (eqb a b && bytes_eq i m) ≡ false → (r : Row)
+      → (rival ms b j (turned a i false names r) && bytes_eq m (turned a i false names r).id) ≡ (rival ms b j r && bytes_eq m r.id)
   kept-rival b j m nm r =
       ⊎_elim
       (λ (t : (same a i r ≡ true)).
       and_left _ _ (rival-off ms b j (turned a i false names r) (turned-off a i names r t))
       ∙ sym
       (⊎_elim
-      (λ (y : ((rival ms b j r && sameBytes m r.id) ≡ true)).
+      (λ (y : ((rival ms b j r && bytes_eq m r.id) ≡ true)).
       let u = and_parts _ _ y in
       let v = rival-parts ms b j r u.0 in
       absurd
       (both_ways _ nm
-      (subst (λ (n : List ℕ). (eqb a b && sameBytes i n) ≡ true) (sym (bytes_eq m r.id u.1))
-      (subst (λ (n : ℕ). (eqb a n && sameBytes i r.id) ≡ true) (sym (eqb-true b r.address v.here)) t))))
-      (λ (y : ((rival ms b j r && sameBytes m r.id) ≡ false)). y)
-      (cases_Bool (rival ms b j r && sameBytes m r.id))))
-      (λ (n : (same a i r ≡ false)). ap (λ (x : Row). rival ms b j x && sameBytes m x.id) (turned-other a i names r n))
+      (subst (λ (n : List ℕ). (eqb a b && bytes_eq i n) ≡ true) (sym (eq_from_bytes m r.id u.1))
+      (subst (λ (n : ℕ). (eqb a n && bytes_eq i r.id) ≡ true) (sym (eqb-true b r.address v.here)) t))))
+      (λ (y : ((rival ms b j r && bytes_eq m r.id) ≡ false)). y)
+      (cases_Bool (rival ms b j r && bytes_eq m r.id))))
+      (λ (n : (same a i r ≡ false)). ap (λ (x : Row). rival ms b j x && bytes_eq m x.id) (turned-other a i names r n))
       (cases_Bool (same a i r))
 
-  kept-rivals : (b : ℕ) (j m : List ℕ) → (eqb a b && sameBytes i m) ≡ false → rivals ms (map (turned a i false names) l) b j m ≡ rivals ms l b j m
+  kept-rivals : (b : ℕ) (j m : List ℕ) → (eqb a b && bytes_eq i m) ≡ false → rivals ms (map (turned a i false names) l) b j m ≡ rivals ms l b j m
   kept-rivals b j m nm =
-      any_comp (λ r. rival ms b j r && sameBytes m r.id) (turned a i false names) l
-      ∙ any_same _ (λ r. rival ms b j r && sameBytes m r.id) (kept-rival b j m nm) l
+      any_comp (λ r. rival ms b j r && bytes_eq m r.id) (turned a i false names) l
+      ∙ any_same _ (λ r. rival ms b j r && bytes_eq m r.id) (kept-rival b j m nm) l
 
   setted-kept : Kept a i (setted ms l c) (setted ms (map (turned a i false names) l) c')
   setted-kept =

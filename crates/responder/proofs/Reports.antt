@@ -1,7 +1,7 @@
 -- Reports of a switch: which rows they are about, and how many.
 use Rattle.std.proofs.Common.{◌≡◌, ℕ, zero, suc, ◌+◌, ◌*◌, ◌<◌, ◌≤◌, Bool, true, false, cond, not, ◌&&◌, eqb, List, [], ◌∷◌, ◌++◌, map, length, get_or, drop, Some, Option, sym, refl, ap, ◌∙◌, arith}
 use Rattle.std.proofs.lemmas.List.{length-append, append_assoc, append-nil, at_drop_more}
-use Rattle.std.specs.List.{AllByRecursion as All}
+use Rattle.std.specs.List.{AllByRecursion}
 use Rattle.std.specs.Str.{bytes_eq}
 use Rattle.std.proofs.lemmas.Bool.{and_parts, both_ways, eqb-true, not-true, cond-false}
 use Rattle.rising.specs.Lists.{leads, Rising}
@@ -24,14 +24,14 @@ use Rattle.responder.specs.Steps.{fell, put_off, fall_there, falls, reports_byte
 abbrev Found : List Row → Row → Type 0
 Found l r = look l r.address r.id ≡ Some r.on
 
-behind : (x : Row) (xs ys : List Row) → leads row_key x ys ≡ true → All (Found xs) ys → All (Found (x ∷ xs)) ys
+behind : (x : Row) (xs ys : List Row) → leads row_key x ys ≡ true → AllByRecursion (Found xs) ys → AllByRecursion (Found (x ∷ xs)) ys
 behind x xs [] h a = tt
 behind x xs (y ∷ ys) h a =
     let p = and_parts _ _ h in
     let e : same y.address y.id x ≡ false = sym (key_same y.address y.id x) ∙ differs_below (row_key x) (row_key y) p.0 in
     (rw e a.0, behind x xs ys p.1 a.1)
 
-pub all_found : (l : List Row) → Rising row_key l → All (Found l) l
+pub all_found : (l : List Row) → Rising row_key l → AllByRecursion (Found l) l
 all_found [] h = tt
 all_found (x ∷ xs) h =
     let p = and_parts _ _ h in
@@ -62,7 +62,7 @@ switched_elsewhere a i on N l true b j h = look_elsewhere a i on N l b j h
 switched_elsewhere a i on N l false b j h = refl
 
 -- the rows that pass a test which holds only at an address are at most as many as stand there
-kept-few : (p : Row → Bool) (a : ℕ) (l : List Row) → All (λ r. p r ≡ true → eqb a r.address ≡ true) l → length (keep p l) ≤ tally a l
+kept-few : (p : Row → Bool) (a : ℕ) (l : List Row) → AllByRecursion (λ r. p r ≡ true → eqb a r.address ≡ true) l → length (keep p l) ≤ tally a l
 kept-few p a [] h = omega arith
 kept-few p a (r ∷ l) h = go (p r) (eqb a r.address) h.0 (kept-few p a l h.1)
   where
@@ -85,8 +85,8 @@ fell-here a i l l' r e f t = go (eqb a r.address) refl
         let u : is_on (look l' r.address r.id) ≡ true = ap is_on s ∙ p.0 in
         absurd (both_ways (is_on (look l' r.address r.id)) (not-true _ q.1) u)
 
-all_here : (a : ℕ) (i : List ℕ) (l l' xs : List Row) → ((b : ℕ) (j : List ℕ) → eqb a b ≡ false → look l' b j ≡ look l b j) → All (Found l) xs
-    → All (λ r. fell a i l' r ≡ true → eqb a r.address ≡ true) xs
+all_here : (a : ℕ) (i : List ℕ) (l l' xs : List Row) → ((b : ℕ) (j : List ℕ) → eqb a b ≡ false → look l' b j ≡ look l b j) → AllByRecursion (Found l) xs
+    → AllByRecursion (λ r. fell a i l' r ≡ true → eqb a r.address ≡ true) xs
 all_here a i l l' [] e f = tt
 all_here a i l l' (r ∷ xs) e f = (fell-here a i l l' r e f.0, all_here a i l l' xs e f.1)
 
