@@ -1,5 +1,5 @@
 -- From which rows a host is made, and what is said of others.
-use Rattle.std.specs.Prelude.{◌≡◌, Bool, cond, not, ◌||◌, ltb, List, length, Some, None, Option, nat_lt}
+use Rattle.std.specs.Prelude.{◌≡◌, Bool, cond, not, ◌||◌, List, length, Some, None, Option, nat_lt}
 use Rattle.rising.specs.Lists.{rising}
 use Rattle.message.specs.Rows.{row_key, all_ranged}
 use Rattle.message.specs.declared.row.Row.{Row}
@@ -9,7 +9,7 @@ use Rattle.host.specs.Rows.{any, tally, Sound}
 
 -- more than 21 rows stand at the address of one of them
 abbrev pub crowded : List Row → Bool
-crowded l = any (λ r. ltb 21 (tally r.address l)) l
+crowded l = any (λ r. nat_lt 21 (tally r.address l)) l
 
 -- more than 64 rows, or not strictly rising, or more than 21 at one address
 abbrev pub disordered : List Row → Bool

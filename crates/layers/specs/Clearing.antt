@@ -1,5 +1,5 @@
 -- How far the sets layer has come below while it puts rivals off, one by one, before a row goes on.
-use Rattle.std.specs.Prelude.{◌≡◌, ℕ, ◌<◌, Bool, true, false, cond, ◌&&◌, List, map, get_or, ◌==◌, slice_index_or}
+use Rattle.std.specs.Prelude.{◌≡◌, ℕ, ◌<◌, Bool, true, false, cond, ◌&&◌, List, map, ◌==◌, slice_index_or}
 use Rattle.std.specs.Str.{bytes_eq}
 use Rattle.message.specs.declared.row.Row.{Row}
 use Rattle.host.specs.Rows.{row, any}
@@ -18,7 +18,7 @@ pub record Cleared (ms : List Member) (l : List Row) (c : Consents) (f : Bool) (
   pub ids : List ℕ → Bool
   pub rows : l' ≡ map (cleared a ids) l
   pub picks : (j : List ℕ) → ids j ≡ true → any (λ r. rival ms a i r && bytes_eq j r.id) l ≡ true
-  pub front : (m : ℕ) (d : Row) → m < k → rival ms a i (slice_index_or l m d) ≡ true → ids (get_or l m d).id ≡ true
+  pub front : (m : ℕ) (d : Row) → m < k → rival ms a i (slice_index_or l m d) ≡ true → ids (slice_index_or l m d).id ≡ true
   pub on : c'.on a i ≡ true
   pub off : (j : List ℕ) → ids j ≡ false → c.off a j ≡ true → c'.off a j ≡ true
   pub names : (j : List ℕ) → ids j ≡ false → c'.names a i j ≡ c.names a i j
