@@ -31,16 +31,20 @@ def antt_files():
 
 
 def declared():
-    """The names that specs/ and proofs/ declare: words and types, and lemmas apart."""
-    words, lemmas = set(), set()
+    """The names that specs/ and proofs/ declare: words and types, constructors and words in modules, and lemmas."""
+    words, inner, lemmas = set(), set(), set()
     for path in antt_files():
         in_data = False
         for line in open(path, encoding='utf-8'):
             if line.strip() and not line[0].isspace():
                 in_data = re.match(r'(pub )?data ', line) is not None
-            field = FIELD.match(line) or WORD.match(line) or (in_data and CONSTRUCTOR.match(line))
+            field = FIELD.match(line)
             if field:
                 words.add(field.group(1))
+                continue
+            field = WORD.match(line) or (in_data and CONSTRUCTOR.match(line))
+            if field:
+                inner.add(field.group(1))
                 continue
             found = DECLARED.match(line)
             if not found or found.group(2) in KEYWORDS or line.startswith('--'):
@@ -53,7 +57,7 @@ def declared():
                 words.add(name)
             elif rest.startswith(':'):
                 lemmas.add(name)
-    return words, lemmas
+    return words, inner, lemmas
 
 
 def spelled(name):
@@ -74,11 +78,11 @@ def lemma(name, known):
 
 
 def renamings():
-    words, lemmas = declared()
+    words, inner, lemmas = declared()
     words = {w for w in words if w not in FOREIGN}
     known = {spelled(w) for w in words} | LIBRARY
-    new = {w: spelled(w) for w in words}
-    for name in lemmas - words - FOREIGN:
+    new = {w: spelled(w) for w in words | (inner - FOREIGN)}
+    for name in lemmas - words - inner - FOREIGN:
         new[name] = lemma(name, known)
     return {a: b for a, b in new.items() if a != b}
 
