@@ -1,5 +1,5 @@
 -- The laws of entering and removing hold of the definitions.
-use Rattle.std.proofs.Common.{◌≡◌, ℕ, ◌+◌, true, false, cond, ltb, List, [], ◌∷◌, length, Some, None, sym, refl, ap, ◌∙◌, ⊎_elim, arith}
+use Rattle.std.proofs.Common.{◌≡◌, ℕ, ◌+◌, true, false, cond, ltb, List, [], ◌∷◌, length, Some, None, sym, refl, ap, ◌∙◌, subst, ⊎_elim, arith}
 use Rattle.std.proofs.lemmas.Bool.{or_parts, both_ways, cases_Bool, cond_both, cond-true, cond-false, lt-ltb, le-ltb}
 use Rattle.std.proofs.lemmas.List.Edits.{length-remove}
 use Rattle.rising.specs.Order.{Key, before, same_key}
@@ -46,14 +46,17 @@ module _ {X : Type 0} (key : X → Key) where
   entered-there : (x : X) (xs : List X) → Rising key xs → holds key x xs ≡ true → entered key x xs ≡ xs
   entered-there x xs up h = let p = holds_place key xs x h in entered_present key xs x p.0 up p.1
 
-  pub enters_lawful : (room : ℕ) (x : X) (xs : List X) → Rising key xs → Enters key room x xs (entering room key x xs)
-  enters_lawful room x xs up = record {
+  lawful-entering : (room : ℕ) (x : X) (xs : List X) → Rising key xs → Enters key room x xs (entering room key x xs)
+  lawful-entering room x xs up = record {
     arrives = λ t h. rw (cond-true (ltb (length xs) room) (entered key x xs) xs (lt-ltb (length xs) room t)) (arrives-entered x xs h);
     full = λ t. cond-false (ltb (length xs) room) (entered key x xs) xs (le-ltb (length xs) room t);
     there = λ h. cond_both (ltb (length xs) room) (entered key x xs) xs (λ zs. zs ≡ xs) (λ _. entered-there x xs up h) (λ _. refl);
     others = λ z ne. cond_both (ltb (length xs) room) (entered key x xs) xs (λ zs. found key z zs ≡ found key z xs) (λ _. others-entered x xs z ne) (λ _. refl);
     still = cond_both (ltb (length xs) room) (entered key x xs) xs (λ zs. Rising key zs) (λ _. rising_entered key x xs up) (λ _. up);
   }
+
+  pub enters_lawful : (room : ℕ) (x : X) (xs ys : List X) → (Rising key xs → ys ≡ entering room key x xs) → Rising key xs → Enters key room x xs ys
+  enters_lawful room x xs ys e up = subst (Enters key room x xs) (sym (e up)) (lawful-entering room x xs up)
 
   gone-without : (x : X) (xs : List X) → found key x (without key x xs) ≡ None
   gone-without x [] = refl
@@ -80,11 +83,14 @@ module _ {X : Type 0} (key : X → Key) where
       let p = holds_place key xs x h in
       rw (without_at key xs x p.0 up p.1) (length-remove xs p.0 p.1.0)
 
-  pub leaves_lawful : (x : X) (xs : List X) → Rising key xs → Leaves key x xs (without key x xs)
-  leaves_lawful x xs up = record {
+  lawful-without : (x : X) (xs : List X) → Rising key xs → Leaves key x xs (without key x xs)
+  lawful-without x xs up = record {
     gone = gone-without x xs;
     shorter = shorter-without x xs up;
     absent = λ h. without_absent key xs x (absent_from_holds key xs x h);
     others = others-without x xs;
     still = rising_without key x xs up;
   }
+
+  pub leaves_lawful : (x : X) (xs ys : List X) → (Rising key xs → ys ≡ without key x xs) → Rising key xs → Leaves key x xs ys
+  leaves_lawful x xs ys e up = subst (Leaves key x xs) (sym (e up)) (lawful-without x xs up)

@@ -1,9 +1,9 @@
 -- What rising lists keep.
-use Rattle.std.proofs.Common.{◌≡◌, ℕ, zero, suc, ◌+◌, ◌-◌, ◌<◌, ◌≤◌, true, false, List, [], ◌∷◌, ◌++◌, length, get_or, take, drop, Some, None, sym, refl, ap, ◌∙◌, ⊎_elim, zero-le, arith}
-use Rattle.std.proofs.lemmas.Bool.{and_parts, and_from, or_from, or_left, or_right, or_cases, both_ways, cases_Bool, cases_lt}
-use Rattle.std.specs.List.{insert, remove}
-use Rattle.std.proofs.lemmas.List.{get_or_default, length-take-le, get_or-take, get_or_read, take_more}
-use Rattle.std.proofs.lemmas.List.Elements.{at_read}
+use Rattle.std.proofs.Common.{◌≡◌, ℕ, zero, suc, ◌+◌, ◌<◌, ◌≤◌, Bool, true, false, List, [], ◌∷◌, ◌++◌, length, get_or, take, drop, Some, None, sym, refl, ap, ◌∙◌, ⊎_elim, zero-le, arith}
+use native.Mathlib.Numerals.{unary_clauses}
+use Rattle.std.proofs.lemmas.Bool.{and_parts, and_from, or_from, or_left, or_right, or_cases, both_ways, cases_Bool, cases_lt, false_from_ne_true}
+use Rattle.std.specs.List.{insert, remove, AllAdjacentBelow, IsAllAdjacentAnswer}
+use Rattle.std.proofs.lemmas.List.{get_or_default}
 use Rattle.rising.specs.Order.{Key, before, Before, same_key}
 use Rattle.rising.specs.Lists.{leads, rising, Rising, holds, found, Stands, Absent, Gap, entered, without, having}
 use Rattle.rising.proofs.Order.{before_irrefl, before_trans, before_asym, same_eq, same_from, differs_from, differs_below}
@@ -19,24 +19,6 @@ module _ {X : Type 0} (key : X → Key) where
   rising_at (x ∷ xs) h i zero d l m = absurd (omega arith)
   rising_at (x ∷ xs) h zero (suc j) d l m = leads_at x xs (and_parts _ _ h).0 j d (omega arith)
   rising_at (x ∷ xs) h (suc i) (suc j) d l m = rising_at xs (and_parts _ _ h).1 i j d (omega arith) (omega arith)
-
-  -- a record before x has only such in front of it
-  pub low_more : (xs : List X) (x : X) → Rising key xs → (m : ℕ) (y : X) → m < length xs → y ≡ get_or xs m y → Before (key y) (key x) → (k : ℕ) (d : X) → k < m + 1 → Before (key (get_or xs k d)) (key x)
-  low_more xs x up m y l read here k d h =
-      let at = at_read xs (λ z. Before (key z) (key x)) m y l read here d in
-      ⊎_elim
-      (λ (e : k < m). before_trans (key (get_or xs k d)) (key (get_or xs m d)) (key x) (rising_at xs up k m d e l) at)
-      (λ (e : m ≤ k). let s : m ≡ k = omega arith in rw s at at)
-      (cases_lt k m)
-
-  -- a record after x has only such after it
-  pub high_more : (xs : List X) (x : X) → Rising key xs → (m : ℕ) (y : X) → m < length xs → y ≡ get_or xs m y → Before (key x) (key y) → (k : ℕ) (d : X) → m ≤ k → k < length xs → Before (key x) (key (get_or xs k d))
-  high_more xs x up m y l read here k d h lk =
-      let at = at_read xs (λ z. Before (key x) (key z)) m y l read here d in
-      ⊎_elim
-      (λ (e : m < k). before_trans (key x) (key (get_or xs m d)) (key (get_or xs k d)) at (rising_at xs up m k d e lk))
-      (λ (e : k ≤ m). let s : m ≡ k = omega arith in rw s at at)
-      (cases_lt m k)
 
   pub absent_from_gap : (xs : List X) (x : X) (i : ℕ) → Gap key x xs i → Absent key x xs
   absent_from_gap xs x i g k d l e =
@@ -155,32 +137,19 @@ module _ {X : Type 0} (key : X → Key) where
       let p = and_parts (leads key x xs) (rising key xs) h in
       and_from _ _ (leads-push x y xs p.0 (b 0 x (omega arith))) (rising_push xs y p.1 (λ k d l. b (suc k) d (omega arith)))
 
-  -- the next record of a list stands after the last of those before it
-  pub rising_more : (xs : List X) (i : ℕ) (x y : X) → 0 < i → i < length xs → Rising key (take i xs) → x ≡ get_or xs (i - 1) x → y ≡ get_or xs i y → Before (key x) (key y) → Rising key (take (i + 1) xs)
-  rising_more xs i x y p l up rx ry b =
-      let m = length-take-le i xs (omega arith) in
-      let far : (k : ℕ) (d : X) → k < length (take i xs) → Before (key (get_or (take i xs) k d)) (key y) = λ k d h.
-      let last : X = get_or (take i xs) (i - 1) d in
-      let lx : last ≡ x = get_or-take i xs (i - 1) d (omega arith) ∙ sym (get_or_read xs (i - 1) x (omega arith) rx d) in
-      let lb : Before (key last) (key y) = rw lx b in
-      ⊎_elim
-      (λ (e : k < i - 1). before_trans (key (get_or (take i xs) k d)) (key last) (key y) (rising_at (take i xs) up k (i - 1) d e (omega arith)) lb)
-      (λ (e : i - 1 ≤ k). let s : k ≡ i - 1 = omega arith in rw s lb)
-      (cases_lt k (i - 1)) in
-      let pushed : take (i + 1) xs ≡ take i xs ++ y ∷ [] = take_more xs i y l ∙ rw (sym ry) in
-      rw pushed (rising_push (take i xs) y up far)
+  -- a list rises if each record stands before the next
+  rising-neighbours : (xs : List X) → AllAdjacentBelow (λ x y. true ≡ before (key x) (key y)) xs (length xs) → Rising key xs
+  rising-neighbours [] h = refl
+  rising-neighbours (x ∷ []) h = refl
+  rising-neighbours (x ∷ y ∷ ys) h =
+      let b = sym (h 0 x (omega arith)) in
+      let up = rising-neighbours (y ∷ ys) (λ k d l. simp unary_clauses (simp unary_clauses at (h (suc k) d (omega arith)))) in
+      and_from _ _ (and_from _ _ b (leads-trans x y ys b (and_parts _ _ up).0)) up
 
-  -- two neighbours out of order
-  pub not_rising : (xs : List X) (i : ℕ) (x y : X) → 0 < i → i < length xs → x ≡ get_or xs (i - 1) x → y ≡ get_or xs i y → before (key x) (key y) ≡ false → rising key xs ≡ false
-  not_rising xs i x y p l rx ry b =
-      ⊎_elim
-      (λ (t : (rising key xs ≡ true)).
-      let far = rising_at xs t (i - 1) i x (omega arith) l in
-      let e : y ≡ get_or xs i x = get_or_read xs i y l ry x in
-      let bad : Before (key x) (key y) = rw (sym rx, sym e) at far in
-      absurd (both_ways (before (key x) (key y)) b bad))
-      (λ (t : (rising key xs ≡ false)). t)
-      (cases_Bool (rising key xs))
+  pub rises_by : (xs : List X) (r : Bool) → IsAllAdjacentAnswer (λ x y b. b ≡ before (key x) (key y)) xs r → r ≡ rising key xs
+  rises_by xs true h = sym (rising-neighbours xs h)
+  rises_by [] false h = absurd (let l = h.1 in omega arith)
+  rises_by (x ∷ xs) false h = sym (false_from_ne_true _ (λ up. both_ways _ (sym (h.2 x)) (rising_at (x ∷ xs) up h.0 (h.0 + 1) x (omega arith) h.1)))
 
   pub found_absent : (xs : List X) (x : X) → Absent key x xs → found key x xs ≡ None
   found_absent [] x a = refl

@@ -61,8 +61,8 @@ module _ {X : Type 0} (key : X → Key) (x : X) (s : List X) (n : ℕ) where
       let all = take_all n s l in
       cond_above (length (take n s)) (length s) (entered key x (take n s)) (take n s) (take n s) (omega (arith, ap length all)) refl
 
-  pub enters_not : (i : ℕ) → Rising key (take n s) → Stands key x (take n s) i → take n s ≡ entering (length s) key x (take n s)
-  enters_not i up here =
+  pub enters_not : (i : ℕ) → Stands key x (take n s) i → Rising key (take n s) → take n s ≡ entering (length s) key x (take n s)
+  enters_not i here up =
       let e = entered_present key (take n s) x i up here in
       cond_both (ltb (length (take n s)) (length s)) (entered key x (take n s)) (take n s) (λ z. take n s ≡ z) (λ _. sym e) (λ _. refl)
 

@@ -1,5 +1,5 @@
 -- Keys are lists of numbers, and one order holds of them all: number by number from the front.
-use Rattle.std.specs.Prelude.{◌≡◌, ℕ, Bool, true, false, cond, ◌&&◌, List, [], ◌∷◌, ◌==◌, nat_lt}
+use Rattle.std.specs.Prelude.{◌≡◌, ℕ, Bool, true, false, cond, List, [], ◌∷◌, ◌==◌, nat_lt, bytes_eq}
 
 abbrev pub Key : Type 0
 Key = List ℕ
@@ -16,7 +16,4 @@ Before x y = before x y ≡ true
 
 -- the keys are equal
 abbrev pub same_key : Key → Key → Bool
-same_key [] [] = true
-same_key [] (y ∷ ys) = false
-same_key (x ∷ xs) [] = false
-same_key (x ∷ xs) (y ∷ ys) = x == y && same_key xs ys
+same_key = bytes_eq

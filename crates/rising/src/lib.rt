@@ -27,21 +27,11 @@ impl Keyed for u32 {
     }
 }
 
-// Where the key of `x` stands in the list, or else where it would: halving, since the list rises.
+// Where the key of `x` stands in the list, or else where it would, since the list rises.
 fn search<T: Keyed>(list: &[T], x: &T) -> Result<usize, usize>
     ensures { MatchResult result (Stands T.key x.now list.now) (λ i. (i ≤ length list.now) × (Rising T.key list.now → Gap T.key x.now list.now i)) }
 {
-    let mut low = 0;
-    let mut high = list.len();
-    while low < high {
-        let mid = low + (high - low) / 2;
-        match list[mid].compare(x) {
-            Ordering::Less => low = mid + 1,
-            Ordering::Equal => return Ok(mid),
-            Ordering::Greater => high = mid,
-        }
-    }
-    Err(low)
+    list.binary_search_by(|y| y.compare(x))
 }
 
 /// The place of the record with the key of `x`. What is found has that key in any list; that nothing is found says that it
@@ -59,14 +49,7 @@ pub fn find<T: Keyed>(list: &[T], x: &T) -> Option<usize>
 pub fn rises<T: Keyed>(list: &[T]) -> bool
     ensures { result ≡ rising T.key list.now }
 {
-    let mut i = 1;
-    while i < list.len() {
-        match list[i - 1].compare(&list[i]) {
-            Ordering::Less => i += 1,
-            _ => return false,
-        }
-    }
-    true
+    list.is_sorted_by(|x, y| x.compare(y).is_lt())
 }
 
 /// Enters `x` at its place among the first `count` slots, and tells how many are in use from then on. Where the slots are
@@ -83,11 +66,11 @@ pub fn enter<T: Keyed + Copy>(slots: &mut [T], count: usize, x: T) -> usize
     if count >= slots.len() {
         return count;
     }
-    match search(&slots[0..count], &x) {
+    match search(&slots[..count], &x) {
         Ok(_) => count,
         Err(i) => {
             slots[count] = x;
-            slots[i..count + 1].rotate_right(1);
+            slots[i..=count].rotate_right(1);
             count + 1
         }
     }
@@ -107,7 +90,7 @@ pub fn remove<T: Keyed + Copy>(slots: &mut [T], count: usize, x: &T) -> usize
     if count > slots.len() {
         return count;
     }
-    match search(&slots[0..count], x) {
+    match search(&slots[..count], x) {
         Ok(i) => {
             slots[i..count].rotate_left(1);
             count - 1

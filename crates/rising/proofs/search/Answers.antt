@@ -1,15 +1,12 @@
-use Rattle.std.proofs.Common.{arith}
-use Rattle.rising.proofs.Lists.{low_more, high_more}
+use Rattle.std.proofs.Common.{rules}
+use Rattle.std.proofs.lemmas.Fn.{always_returns_same}
+use Rattle.rising.proofs.Order.{order, compared}
+use Rattle.rising.proofs.Found.{searched}
 use Rattle.rising.proofs.search.Goals as goal
 
-pub loop-low-preserved-in-Less : goal.loop-low-preserved-in-Less
-loop-low-preserved-in-Less g c =
+pub returns : goal.returns
+returns g c =
     let key = g.T.Keyed.key in
-    let inv = c.loop-low.invariant in
-    (omega arith, inv.1, (λ up. low_more key _ c.args.x.now up _ c.index-list-mid.result (omega arith) c.index-list-mid.is c.in-Less.ensures), inv.3)
-
-pub loop-low-preserved : goal.loop-low-preserved
-loop-low-preserved g c =
-    let key = g.T.Keyed.key in
-    let inv = c.loop-low.invariant in
-    (omega arith, omega arith, inv.2, λ up. high_more key _ c.args.x.now up _ c.index-list-mid.result (omega arith) c.index-list-mid.is c.in-Greater.ensures)
+    let x = c.args.x.now in
+    let said = c.binary_search_by.ensures in
+    searched key x c.args.list.now _ said.bound (said.position (λ y. order (key y) (key x)) (always_returns_same _ _ _ (λ a r f' called. (compared (key a.0.now) (key x) r (search rules), search rules))))
