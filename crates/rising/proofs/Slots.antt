@@ -7,9 +7,9 @@ use Rattle.std.proofs.lemmas.List.Edits.{length-insert, length-remove}
 use Rattle.std.proofs.lemmas.Slice.{between_is}
 use Rattle.std.proofs.lemmas.Bool.{cond_below, cond_above, cond_both}
 use Rattle.rising.specs.Order.{Key}
-use Rattle.rising.specs.Lists.{Rising, Stands, Gap, entered, entering, without, having}
+use Rattle.rising.specs.Lists.{Rising, Stands, Absent, Gap, entered, entering, without, having}
 use Rattle.rising.specs.Slots.{Put, Taken}
-use Rattle.rising.proofs.Lists.{entered_at, entered_present, without_absent, without_at, having_absent, having_at, absent_from_gap}
+use Rattle.rising.proofs.Lists.{entered_at, entered_present, without_absent, without_at, having_absent, having_at}
 
 module _ {X : Type 0} where
   turned_right : (p q ys : List X) (x : X) → p ≡ q ++ x ∷ [] → ys ≡ drop (length p - 1) p ++ take (length p - 1) p → ys ≡ x ∷ q
@@ -131,8 +131,8 @@ module _ {X : Type 0} (key : X → Key) (x : X) (s : List X) (n : ℕ) where
         let one : take 1 (drop i (take n s)) ≡ take 1 (drop i s) = ap (take 1) (sym (between_is s i n)) ∙ take-take 1 (n - i) (drop i s) (omega arith) in
         drop_taken p ∙ ap (λ zs. zs ++ drop n s) (sym (having_at key (take n s) x i up (stands-in p) ∙ one))
 
-  pub without_kept : (i : ℕ) → Gap key x (take n s) i → take n s ≡ without key x (take n s)
-  without_kept i gap = sym (without_absent key (take n s) x (absent_from_gap key _ _ _ gap))
+  pub without_kept : Absent key x (take n s) → take n s ≡ without key x (take n s)
+  without_kept none = sym (without_absent key (take n s) x none)
 
-  pub having_kept : (i : ℕ) → Gap key x (take n s) i → drop n s ≡ having key x (take n s) ++ drop n s
-  having_kept i gap = sym (ap (λ zs. zs ++ drop n s) (having_absent key (take n s) x (absent_from_gap key _ _ _ gap)))
+  pub having_kept : Absent key x (take n s) → drop n s ≡ having key x (take n s) ++ drop n s
+  having_kept none = sym (ap (λ zs. zs ++ drop n s) (having_absent key (take n s) x none))

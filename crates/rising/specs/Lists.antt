@@ -39,6 +39,20 @@ pub record Gap {X : Type 0} (key : X → Key) (x : X) (xs : List X) (i : ℕ) : 
   pub low : (k : ℕ) (d : X) → k < i → Before (key (slice_index_or xs k d)) (key x)
   pub high : (k : ℕ) (d : X) → i ≤ k → k < length xs → Before (key x) (key (slice_index_or xs k d))
 
+-- what a search tells that finds x's key at i
+pub record FoundAt {X : Type 0} (key : X → Key) (x : X) (xs : List X) (i : ℕ) : Type 0 where
+  pub stands : Stands key x xs i
+  pub held : Rising key xs → holds key x xs ≡ true
+  pub content : Rising key xs → (d : X) → found key x xs ≡ Some (slice_index_or xs i d)
+
+-- and one that finds no place of it, but i as the place where it would be
+pub record NotFound {X : Type 0} (key : X → Key) (x : X) (xs : List X) (i : ℕ) : Type 0 where
+  pub within : i ≤ length xs
+  pub gap : Rising key xs → Gap key x xs i
+  pub absent : Rising key xs → Absent key x xs
+  pub unheld : Rising key xs → holds key x xs ≡ false
+  pub content : Rising key xs → found key x xs ≡ None
+
 -- the list with x at its place; where a record has x's key, the list as it is
 abbrev pub entered : {X : Type 0} → (X → Key) → X → List X → List X
 entered key x [] = x ∷ []

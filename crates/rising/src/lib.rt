@@ -4,8 +4,8 @@
 ghost use Rattle.std.specs.Prelude.{◌≡◌, ℕ, ◌+◌, ◌<◌, ◌≤◌, List, [], ◌∷◌, ◌++◌, length, take, drop, is_some, Some, None, MatchOption, MatchResult, slice_index_or};
 ghost use Rattle.std.specs.Ordering.{MatchOrdering};
 ghost use Rattle.rising.specs.Order.{Key, Before};
-ghost use Rattle.rising.specs.Lists.{rising, Rising, holds, found, Stands, Absent, Gap, entering, without, having};
-ghost use Rattle.rising.specs.Slots.{KeptOrPut, KeptOrTaken};
+ghost use Rattle.rising.specs.Lists.{rising, Rising, holds, found, Stands, Absent, Gap, FoundAt, NotFound, entering, without, having};
+ghost use Rattle.rising.specs.Slots.{Put, KeptOrPut, KeptOrTaken};
 ghost use Rattle.rising.specs.Laws.{Enters, Leaves};
 
 use std::cmp::Ordering;
@@ -29,7 +29,7 @@ impl Keyed for u32 {
 
 // Where the key of `x` stands in the list, or else where it would, since the list rises.
 fn search<T: Keyed>(list: &[T], x: &T) -> Result<usize, usize>
-    ensures { MatchResult result (Stands T.key x.now list.now) (λ i. (i ≤ length list.now) × (Rising T.key list.now → Gap T.key x.now list.now i)) }
+    ensures { MatchResult result (FoundAt T.key x.now list.now) (NotFound T.key x.now list.now) }
 {
     list.binary_search_by(|y| y.compare(x))
 }
@@ -52,6 +52,18 @@ pub fn rises<T: Keyed>(list: &[T]) -> bool
     list.is_sorted_by(|x, y| x.compare(y).is_lt())
 }
 
+// Puts `x` at its place `i` among the first `count` slots, and moves those from `i` on up by one.
+fn put<T: Keyed + Copy>(slots: &mut [T], count: usize, i: usize, x: T)
+    requires within { i ≤ count }
+    requires room { count < length slots.old }
+    requires gap { Rising T.key (take count slots.old) → Gap T.key x (take count slots.old) i }
+    ensures whole { Put x slots.old count (count + 1) slots.new i }
+    ensures value { Rising T.key (take count slots.old) → take (count + 1) slots.new ≡ entering (length slots.old) T.key x (take count slots.old) }
+{
+    slots[count] = x;
+    slots[i..=count].rotate_right(1);
+}
+
 /// Enters `x` at its place among the first `count` slots, and tells how many are in use from then on. Where the slots are
 /// full, or its key is there, nothing changes; a count beyond the slots counts as full.
 pub fn enter<T: Keyed + Copy>(slots: &mut [T], count: usize, x: T) -> usize
@@ -69,8 +81,7 @@ pub fn enter<T: Keyed + Copy>(slots: &mut [T], count: usize, x: T) -> usize
     match search(&slots[..count], &x) {
         Ok(_) => count,
         Err(i) => {
-            slots[count] = x;
-            slots[i..=count].rotate_right(1);
+            put(slots, count, i, x);
             count + 1
         }
     }

@@ -7,22 +7,22 @@ use Rattle.rising.proofs.Slots.{slots_put, enters_full, enters_not, enters_here,
 use Rattle.rising.proofs.enter.Goals as goal
 
 pub returns-then-count-slots-clause-value : goal.returns-then-count-slots-clause-value
-returns-then-count-slots-clause-value g c = λ _. enters_full g.T.Keyed.key c.args.x c.args.slots.now c.args.count c.if-count-slots.true
+returns-then-count-slots-clause-value g c = λ _. enters_full g.T.Keyed.key c.args.x c.args.slots.now c.args.count (omega (arith, c.if-count-slots.true))
 
 pub returns-then-count-slots-clause-laws : goal.returns-then-count-slots-clause-laws
 returns-then-count-slots-clause-laws g c =
     let s = c.args.slots.now in
     let n = c.args.count in
-    enters_lawful g.T.Keyed.key (length s) c.args.x (take n s) _ (λ _. enters_full g.T.Keyed.key c.args.x s n c.if-count-slots.true)
+    enters_lawful g.T.Keyed.key (length s) c.args.x (take n s) _ (λ _. enters_full g.T.Keyed.key c.args.x s n (omega (arith, c.if-count-slots.true)))
 
 pub returns-in-Ok-clause-value : goal.returns-in-Ok-clause-value
-returns-in-Ok-clause-value g c = enters_not g.T.Keyed.key c.args.x c.args.slots.now c.args.count _ c.in-Ok.ensures
+returns-in-Ok-clause-value g c = enters_not g.T.Keyed.key c.args.x c.args.slots.now c.args.count _ c.in-Ok.ensures.stands
 
 pub returns-in-Ok-clause-laws : goal.returns-in-Ok-clause-laws
 returns-in-Ok-clause-laws g c =
     let s = c.args.slots.now in
     let n = c.args.count in
-    enters_lawful g.T.Keyed.key (length s) c.args.x (take n s) _ (enters_not g.T.Keyed.key c.args.x s n _ c.in-Ok.ensures)
+    enters_lawful g.T.Keyed.key (length s) c.args.x (take n s) _ (enters_not g.T.Keyed.key c.args.x s n _ c.in-Ok.ensures.stands)
 
 pub returns-in-Err : goal.returns-in-Err
 returns-in-Err g c =
@@ -30,18 +30,13 @@ returns-in-Err g c =
     let x = c.args.x in
     let s = c.args.slots.now in
     let n = c.args.count in
-    let i = c.in-Err.i in
-    let told = c.in-Err.ensures in
-    let l : n < length s = omega (arith, c.if-count-slots.false) in
-    let w : i ≤ n = omega (arith, told.0, length-take-le n s (omega arith)) in
-    let put : Put x s n (n + 1) _ i = (w, l, refl, slots_put s n i x c.rotate_right.new.self l w c.rotate_right.ensures.after) in
-    let e : Rising key (take n s) → take (n + 1) _ ≡ entering (length s) key x (take n s) = λ up. take_put key x s n i (n + 1) _ put ∙ enters_here key x s n i l (told.1 up) in
-    let long = length_put key x s n i (n + 1) _ put in
-    let laws = enters_lawful key (length s) x (take n s) _ e in
+    let put = c.put.ensures.whole in
+    let long = length_put key x s n _ (n + 1) _ put in
+    let laws = enters_lawful key (length s) x (take n s) _ c.put.ensures.value in
     record {
-      whole = inr (i, put);
-      value = e;
-      rest = drop_put key x s n i (n + 1) _ put;
+      whole = inr (_, put);
+      value = c.put.ensures.value;
+      rest = drop_put key x s n _ (n + 1) _ put;
       fits = λ _. omega (arith, long);
       long = long;
       still = λ up. (laws up).still;

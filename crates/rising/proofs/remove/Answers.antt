@@ -13,7 +13,7 @@ returns-in-Ok g c =
     let s = c.args.slots.now in
     let n = c.args.count in
     let i = c.in-Ok.i in
-    let here = c.in-Ok.ensures in
+    let here = c.in-Ok.ensures.stands in
     let l : n ≤ length s = omega (arith, c.if-count-slots.false) in
     let w : i < n = omega (arith, here.0, length-take-le n s l) in
     let taken : Taken key x s n (n - 1) _ i = (w, l, omega arith, (λ d. ap key (sym (get_or-take n s i d w)) ∙ here.1 d), slots_taken s n i c.rotate_left.new.self l w c.rotate_left.ensures.after) in
@@ -31,13 +31,13 @@ returns-in-Ok g c =
     }
 
 pub returns-in-Err-clause-value : goal.returns-in-Err-clause-value
-returns-in-Err-clause-value g c = λ _ up. without_kept g.T.Keyed.key c.args.x.now c.args.slots.now c.args.count _ (c.in-Err.ensures.1 up)
+returns-in-Err-clause-value g c = λ _ up. without_kept g.T.Keyed.key c.args.x.now c.args.slots.now c.args.count (c.in-Err.ensures.absent up)
 
 pub returns-in-Err-clause-freed : goal.returns-in-Err-clause-freed
-returns-in-Err-clause-freed g c = λ _ up. having_kept g.T.Keyed.key c.args.x.now c.args.slots.now c.args.count _ (c.in-Err.ensures.1 up)
+returns-in-Err-clause-freed g c = λ _ up. having_kept g.T.Keyed.key c.args.x.now c.args.slots.now c.args.count (c.in-Err.ensures.absent up)
 
 pub returns-in-Err-clause-laws : goal.returns-in-Err-clause-laws
 returns-in-Err-clause-laws g c =
     let s = c.args.slots.now in
     let n = c.args.count in
-    λ _. leaves_lawful g.T.Keyed.key c.args.x.now (take n s) _ (λ up. without_kept g.T.Keyed.key c.args.x.now s n _ (c.in-Err.ensures.1 up))
+    λ _. leaves_lawful g.T.Keyed.key c.args.x.now (take n s) _ (λ up. without_kept g.T.Keyed.key c.args.x.now s n (c.in-Err.ensures.absent up))
