@@ -1,7 +1,7 @@
 -- Device numbers (MUIDs): which are usable, which are taken, and the first that is free.
 use Rattle.std.specs.Prelude.{◌≡◌, ℕ, zero, suc, ◌+◌, ◌%◌, ◌<◌, ◌≤◌, Bool, true, false, cond, not, ◌&&◌, ◌||◌, List, [], ◌∷◌, length, ◌==◌, nat_lt}
 use Rattle.rising.specs.Order.{Key}
-use Rattle.rising.specs.Lists.{entering, without}
+use Rattle.rising.specs.Lists.{Rising, entering, without}
 
 -- a number is its own key
 abbrev pub number : ℕ → Key
@@ -28,6 +28,18 @@ has n (x ∷ xs) = x == n || has n xs
 abbrev pub all_usable : List ℕ → Bool
 all_usable [] = true
 all_usable (x ∷ xs) = nat_lt x 268435200 && all_usable xs
+
+-- what is known of the devices: the own number, and the others
+pub record Known : Type 0 where
+  pub own : ℕ
+  pub listed : List ℕ
+
+-- the own number is usable, and the others are rising, each once, all usable, the own never among them
+pub record InOrder (own : ℕ) (listed : List ℕ) : Type 0 where
+  pub up : Rising number listed
+  pub usable : Usable own
+  pub fit : all_usable listed ≡ true
+  pub apart : has own listed ≡ false
 
 -- n can be another device's number: it is usable, and not the own
 abbrev pub other : ℕ → ℕ → Bool
