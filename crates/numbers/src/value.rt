@@ -66,7 +66,7 @@ impl Numbers {
         ensures fit { all_usable result.now ≡ true }
         ensures apart { has self.now.own result.now ≡ false }
     {
-        &self.others[0..self.count]
+        &self.others[..self.count]
     }
 
     /// Whether the number is that of a listed device.
