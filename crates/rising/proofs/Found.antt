@@ -1,5 +1,5 @@
 -- What the search tells of a list.
-use Rattle.std.proofs.Common.{◌≡◌, ℕ, ◌+◌, ◌≤◌, List, length, get_or, Some, None, Ok, Err, Result, sym, ◌∙◌, zero-le, arith}
+use Rattle.std.proofs.Common.{ℕ, ◌+◌, ◌≤◌, List, length, get_or, Ok, Err, Result, sym, ◌∙◌, zero-le, arith}
 use Rattle.std.specs.List.Sorted.{IsBinarySearchResult, IsSearchInRange, IsNonDecreasingBy}
 use Rattle.std.specs.Ordering.{ordering_index}
 use Rattle.std.proofs.lemmas.Cmp.{nat_list_cmp_total}
@@ -7,7 +7,7 @@ use Rattle.std.proofs.lemmas.List.Sorted.{searchable_from_sorted}
 use Rattle.std.specs.Result.{MatchResult}
 use Rattle.rising.specs.Order.{Key}
 use Rattle.rising.proofs.Order.{order, before_order, before_asym, ranked_from_lex}
-use Rattle.rising.specs.Lists.{Rising, Stands, Absent, Gap, FoundAt, NotFound, found}
+use Rattle.rising.specs.Lists.{Rising, Stands, Absent, Gap, FoundAt, NotFound}
 use Rattle.rising.proofs.Lists.{rising_at, absent_from_gap, found_absent, found_stands, holds_absent, holds_stands}
 
 module _ {X : Type 0} (key : X → Key) (x : X) (xs : List X) where

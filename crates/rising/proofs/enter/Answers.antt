@@ -1,9 +1,6 @@
-use Rattle.std.proofs.Common.{◌≡◌, ◌+◌, ◌<◌, ◌≤◌, length, take, refl, ◌∙◌, inr, arith}
-use Rattle.std.proofs.lemmas.List.{length-take-le}
-use Rattle.rising.specs.Lists.{Rising, entering}
-use Rattle.rising.specs.Slots.{Put}
+use Rattle.std.proofs.Common.{◌+◌, length, take, inr, arith}
 use Rattle.rising.proofs.Laws.{enters_lawful}
-use Rattle.rising.proofs.Slots.{slots_put, enters_full, enters_not, enters_here, take_put, drop_put, length_put}
+use Rattle.rising.proofs.Slots.{enters_full, enters_not, drop_put, length_put}
 use Rattle.rising.proofs.enter.Goals as goal
 
 pub returns-then-count-slots-clause-value : goal.returns-then-count-slots-clause-value
