@@ -12,7 +12,7 @@ use crate::refusal::Refusal;
 pub fn muid_number(a: u8, b: u8, c: u8, d: u8) -> u32
     ensures { result ≡ a + b * 0x80 + c * 0x4000 + d * 0x200000 }
 {
-    a as u32 + b as u32 * 0x80 + c as u32 * 0x4000 + d as u32 * 0x20_0000
+    u32::from(a) + u32::from(b) * 0x80 + u32::from(c) * 0x4000 + u32::from(d) * 0x20_0000
 }
 
 /// The two counted lists of Profile IDs of a reply.
@@ -23,11 +23,11 @@ fn two_lists(body: &[u8]) -> Content<'_>
     if body.len() < 4 {
         return Content::Other;
     }
-    let on = 5 * (body[0] as usize + body[1] as usize * 0x80);
+    let on = 5 * (usize::from(body[0]) + usize::from(body[1]) * 0x80);
     if body.len() < 4 + on {
         return Content::Other;
     }
-    let off = 5 * (body[2 + on] as usize + body[3 + on] as usize * 0x80);
+    let off = 5 * (usize::from(body[2 + on]) + usize::from(body[3 + on]) * 0x80);
     if body.len() < 4 + on + off {
         return Content::Other;
     }
