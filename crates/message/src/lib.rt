@@ -27,5 +27,5 @@ pub use reading::{least_length, muid_number, read};
 pub use refusal::Refusal;
 pub use row::Row;
 pub use sent::Sent;
-pub use sub_id::{NakStatus, SubId};
+pub use sub_id::{NakStatus, SubId, UnknownSubId};
 pub use writing::write;

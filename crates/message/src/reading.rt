@@ -7,6 +7,7 @@ ghost use Rattle.message.specs.Shapes.{Shaped, ShapedReading};
 use crate::bytes::all_seven_bits;
 use crate::message::{Content, Message};
 use crate::refusal::Refusal;
+use crate::sub_id::SubId;
 
 /// The number that four bytes of seven bits say, lowest first.
 pub fn muid_number(a: u8, b: u8, c: u8, d: u8) -> u32
@@ -42,13 +43,13 @@ pub fn least_length(sub: u8, version: u8) -> usize
     ensures value { result ≡ least sub version }
     ensures bound { 15 ≤ result }
 {
-    match sub {
-        0x22 | 0x23 if version <= 1 => 20,
-        0x22 | 0x23 => 22,
-        0x70 | 0x71 if version <= 1 => 31,
-        0x70 => 32,
-        0x71 => 33,
-        0x7E => 19,
+    match SubId::try_from(sub) {
+        Ok(SubId::SetProfileOn | SubId::SetProfileOff) if version <= 1 => 20,
+        Ok(SubId::SetProfileOn | SubId::SetProfileOff) => 22,
+        Ok(SubId::Discovery | SubId::ReplyToDiscovery) if version <= 1 => 31,
+        Ok(SubId::Discovery) => 32,
+        Ok(SubId::ReplyToDiscovery) => 33,
+        Ok(SubId::InvalidateMuid) => 19,
         _ => 15,
     }
 }
@@ -61,20 +62,22 @@ fn content(sub: u8, version: u8, body: &[u8]) -> Content<'_>
     if version == 0 || body.len() < least_length(sub, version) - 15 {
         return Content::Other;
     }
-    match sub {
-        0x20 => Content::ProfileInquiry,
-        0x21 => two_lists(body),
-        0x22 => Content::SetOn(&body[0..5]),
-        0x23 => Content::SetOff(&body[0..5]),
-        0x24..=0x27 if body.len() < 5 => Content::Other,
-        0x24 => Content::Enabled(&body[0..5]),
-        0x25 => Content::Disabled(&body[0..5]),
-        0x26 => Content::Added(&body[0..5]),
-        0x27 => Content::Removed(&body[0..5]),
-        0x70 => Content::Discovery(body),
-        0x71 => Content::DiscoveryReply(body),
-        0x7E => Content::InvalidateMuid(&body[0..4]),
-        0x7F => Content::Nak(body),
+    let Ok(kind) = SubId::try_from(sub) else {
+        return Content::Other;
+    };
+    match kind {
+        SubId::ProfileInquiry => Content::ProfileInquiry,
+        SubId::ReplyToProfileInquiry => two_lists(body),
+        SubId::SetProfileOn => Content::SetOn(&body[0..5]),
+        SubId::SetProfileOff => Content::SetOff(&body[0..5]),
+        SubId::ProfileEnabledReport if body.len() >= 5 => Content::Enabled(&body[0..5]),
+        SubId::ProfileDisabledReport if body.len() >= 5 => Content::Disabled(&body[0..5]),
+        SubId::ProfileAddedReport if body.len() >= 5 => Content::Added(&body[0..5]),
+        SubId::ProfileRemovedReport if body.len() >= 5 => Content::Removed(&body[0..5]),
+        SubId::Discovery => Content::Discovery(body),
+        SubId::ReplyToDiscovery => Content::DiscoveryReply(body),
+        SubId::InvalidateMuid => Content::InvalidateMuid(&body[0..4]),
+        SubId::Nak => Content::Nak(body),
         _ => Content::Other,
     }
 }
