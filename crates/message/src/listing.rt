@@ -7,11 +7,12 @@ ghost use Rattle.message.specs.Sending.{counted, ids_of, profile_list};
 ghost use Rattle.message.specs.Writing.{Put, Written};
 
 use crate::address::Address;
+use crate::head::Head;
 use crate::muid::Muid;
+use crate::pen::Pen;
 use crate::refusal::Refusal;
 use crate::row::Row;
 use crate::sub_id::SubId;
-use crate::writing::{has_room, put, put_header};
 
 /// The most rows of which a message of 512 bytes can tell.
 const MOST_ROWS: usize = 98;
@@ -42,28 +43,28 @@ pub fn count_rows(rows: &[Row], address: u8, on: bool) -> usize
 }
 
 /// Puts the IDs of the rows at an address that are on, or off, in the listing's order.
-fn put_ids(rows: &[Row], address: u8, on: bool, out: &mut [u8], at: usize) -> usize
-    requires { at + length (ids_of (part address on rows.now)) ≤ length out.old }
-    ensures { Put out.old at (ids_of (part address on rows.now)) result out.new }
+fn put_ids(rows: &[Row], address: u8, on: bool, pen: &mut Pen<'_>)
+    requires { pen.old.at + length (ids_of (part address on rows.now)) ≤ length pen.old.out.now }
+    ensures bytes { Put pen.old.out.now pen.old.at (ids_of (part address on rows.now)) pen.new.at pen.new.out.now }
+    ensures same_buffer { pen.new.out.ghost_name ≡ pen.old.out.ghost_name }
 {
-    let mut end = at;
     for k in 0..rows.len() {
         if rows[k].stands_at(address, on) {
-            end = put(&rows[k].id, out, end);
+            pen.put(&rows[k].id);
         }
     }
-    end
 }
 
 /// Puts how many rows at an address are on, or off, and their IDs.
-fn put_counted(rows: &[Row], address: u8, on: bool, out: &mut [u8], at: usize) -> usize
-    requires room { at + length (counted (part address on rows.now)) ≤ length out.old }
+fn put_counted(rows: &[Row], address: u8, on: bool, pen: &mut Pen<'_>)
+    requires room { pen.old.at + length (counted (part address on rows.now)) ≤ length pen.old.out.now }
     requires few { length (part address on rows.now) ≤ 98 }
-    ensures { Put out.old at (counted (part address on rows.now)) result out.new }
+    ensures bytes { Put pen.old.out.now pen.old.at (counted (part address on rows.now)) pen.new.at pen.new.out.now }
+    ensures same_buffer { pen.new.out.ghost_name ≡ pen.old.out.ghost_name }
 {
     let count = count_rows(rows, address, on);
-    let at = put(&[(count % 0x80) as u8, (count / 0x80) as u8], out, at);
-    put_ids(rows, address, on, out, at)
+    pen.put(&[(count % 0x80) as u8, (count / 0x80) as u8]);
+    put_ids(rows, address, on, pen);
 }
 
 /// Writes the reply to a listing inquiry at an address, as `write` writes a message.
@@ -82,12 +83,19 @@ pub fn write_profile_reply(
     if on > MOST_ROWS || off > MOST_ROWS - on {
         return Err(Refusal::BufferTooSmall);
     }
-    if !has_room(19 + 5 * (on + off), out, at) {
+    let mut pen = Pen { out, at };
+    if !pen.has_room(19 + 5 * (on + off)) {
         return Err(Refusal::BufferTooSmall);
     }
-    let sub = SubId::ReplyToProfileInquiry;
-    let at = put_header(sub, address.byte, own, to, out, at);
-    let at = put_counted(rows, address.byte, true, out, at);
-    let at = put_counted(rows, address.byte, false, out, at);
-    Ok(put(&[0xF7], out, at))
+    let head = Head {
+        sub_id: SubId::ReplyToProfileInquiry,
+        address,
+        source: own,
+        destination: to,
+    };
+    head.put(&mut pen);
+    put_counted(rows, address.byte, true, &mut pen);
+    put_counted(rows, address.byte, false, &mut pen);
+    pen.put(&[0xF7]);
+    Ok(pen.at)
 }

@@ -1,5 +1,6 @@
 //! Device numbers.
 ghost use Rattle.std.specs.Prelude.{◌≡◌, ◌%◌, ◌<◌, ◌≤◌, true, false, MatchOption, nat_lt};
+ghost use Rattle.message.specs.Messages.{muid};
 
 use std::fmt;
 
@@ -35,6 +36,19 @@ impl Muid {
         Muid {
             number: draw % USABLE,
         }
+    }
+
+    /// The four bytes of seven bits that say it, lowest first.
+    pub(crate) fn bytes(self) -> [u8; 4]
+        ensures { result ≡ muid self.number }
+    {
+        let n = self.number;
+        [
+            (n % 0x80) as u8,
+            (n / 0x80 % 0x80) as u8,
+            (n / 0x4000 % 0x80) as u8,
+            (n / 0x20_0000) as u8,
+        ]
     }
 
     /// Every device.

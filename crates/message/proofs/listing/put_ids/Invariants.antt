@@ -1,4 +1,4 @@
-use Rattle.std.proofs.Common.{drop}
+use Rattle.std.proofs.Common.{◌≡◌, drop}
 use Rattle.message.specs.Rows.{part}
 use Rattle.message.specs.Sending.{ids_of}
 use Rattle.message.specs.Writing.{Left}
@@ -6,5 +6,8 @@ use Rattle.message.proofs.listing.put_ids.Given as goal
 
 abbrev pub invariant-loop-k : goal.invariant-loop-k
 invariant-loop-k l =
-    Left l.initial.out l.at (ids_of (part l.address l.on l.rows)) l.end l.out
-    (ids_of (part l.address l.on (drop l.k l.rows)))
+    record {
+      bytes : Left l.initial.pen.out.now l.initial.pen.at (ids_of (part l.address l.on l.rows)) l.pen.at l.pen.out.now
+          (ids_of (part l.address l.on (drop l.k l.rows)));
+      same_buffer : l.pen.out.ghost_name ≡ l.initial.pen.out.ghost_name;
+    }
