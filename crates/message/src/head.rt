@@ -21,36 +21,6 @@ pub(crate) struct Head {
 }
 
 impl Head {
-    /// Of a message about the whole device.
-    pub(crate) fn of_device(sub_id: SubId, source: Muid, destination: Muid) -> Head
-        ensures sub_id { result.sub_id ≡ sub_id }
-        ensures address { result.address.byte ≡ 0x7F }
-        ensures source { result.source ≡ source }
-        ensures destination { result.destination ≡ destination }
-    {
-        Head {
-            sub_id,
-            address: Address::function_block(),
-            source,
-            destination,
-        }
-    }
-
-    /// Of a report of a profile, to every device.
-    pub(crate) fn of_report(sub_id: SubId, address: Address, source: Muid) -> Head
-        ensures sub_id { result.sub_id ≡ sub_id }
-        ensures address { result.address ≡ address }
-        ensures source { result.source ≡ source }
-        ensures destination { result.destination.number ≡ 268435455 }
-    {
-        Head {
-            sub_id,
-            address,
-            source,
-            destination: Muid::broadcast(),
-        }
-    }
-
     /// Puts `F0 7E` address `0D` Sub-ID `02`, source, destination.
     pub(crate) fn put(self, pen: &mut Pen<'_>)
         requires { pen.old.at + 14 ≤ length pen.old.out.now }
