@@ -2,7 +2,7 @@
 ghost use Rattle.std.specs.Prelude.{◌≡◌, ℕ, ◌+◌, ◌*◌, ◌/◌, ◌%◌, ◌<◌, ◌≤◌, [], ◌∷◌, length};
 ghost use Rattle.std.specs.List.{flat_map};
 ghost use Rattle.message.specs.Messages.{encode};
-ghost use Rattle.message.specs.Rows.{stands, part};
+ghost use Rattle.message.specs.Rows.{stands, part, rows_of};
 ghost use Rattle.message.specs.Sending.{counted, ids_of, profile_list};
 ghost use Rattle.message.specs.Writing.{Put, Written};
 
@@ -27,44 +27,67 @@ impl Row {
     }
 }
 
+/// The rows at an address that are on, or off.
+#[derive(Clone, Copy)]
+struct Part<'a> {
+    rows: &'a [Row],
+    address: u8,
+    on: bool,
+}
+
+impl Part<'_> {
+    /// How many they are.
+    fn count(self) -> usize
+        ensures value { result ≡ length (rows_of self.entry) }
+        ensures ids { length (ids_of (rows_of self.entry)) ≡ 5 * result }
+        ensures bound { result ≤ length self.entry.rows.now }
+    {
+        let rows = self.rows;
+        let mut count = 0;
+        // By an index, as a rule of the project has it.
+        for k in 0..rows.len() {
+            if rows[k].stands_at(self.address, self.on) {
+                count += 1;
+            }
+        }
+        count
+    }
+
+    /// Puts their IDs in the listing's order.
+    fn put_ids(self, pen: &mut Pen<'_>)
+        requires { pen.old.at + length (ids_of (rows_of self)) ≤ length pen.old.out.now }
+        ensures bytes { Put pen.old.out.now pen.old.at (ids_of (rows_of self.entry)) pen.new.at pen.new.out.now }
+        ensures same_buffer { pen.new.out.ghost_name ≡ pen.old.out.ghost_name }
+    {
+        let rows = self.rows;
+        // By an index, as a rule of the project has it.
+        for k in 0..rows.len() {
+            if rows[k].stands_at(self.address, self.on) {
+                pen.put(&rows[k].id);
+            }
+        }
+    }
+
+    /// Puts how many they are, and their IDs.
+    fn put(self, pen: &mut Pen<'_>)
+        requires room { pen.old.at + length (counted (rows_of self)) ≤ length pen.old.out.now }
+        requires few { length (rows_of self) ≤ 98 }
+        ensures bytes { Put pen.old.out.now pen.old.at (counted (rows_of self.entry)) pen.new.at pen.new.out.now }
+        ensures same_buffer { pen.new.out.ghost_name ≡ pen.old.out.ghost_name }
+    {
+        let count = self.count();
+        pen.put(&[(count % 0x80) as u8, (count / 0x80) as u8]);
+        self.put_ids(pen);
+    }
+}
+
 /// How many rows at an address are on, or off.
 pub fn count_rows(rows: &[Row], address: u8, on: bool) -> usize
     ensures value { result ≡ length (part address on rows.now) }
     ensures ids { length (ids_of (part address on rows.now)) ≡ 5 * result }
     ensures bound { result ≤ length rows.now }
 {
-    let mut count = 0;
-    for k in 0..rows.len() {
-        if rows[k].stands_at(address, on) {
-            count += 1;
-        }
-    }
-    count
-}
-
-/// Puts the IDs of the rows at an address that are on, or off, in the listing's order.
-fn put_ids(rows: &[Row], address: u8, on: bool, pen: &mut Pen<'_>)
-    requires { pen.old.at + length (ids_of (part address on rows.now)) ≤ length pen.old.out.now }
-    ensures bytes { Put pen.old.out.now pen.old.at (ids_of (part address on rows.now)) pen.new.at pen.new.out.now }
-    ensures same_buffer { pen.new.out.ghost_name ≡ pen.old.out.ghost_name }
-{
-    for k in 0..rows.len() {
-        if rows[k].stands_at(address, on) {
-            pen.put(&rows[k].id);
-        }
-    }
-}
-
-/// Puts how many rows at an address are on, or off, and their IDs.
-fn put_counted(rows: &[Row], address: u8, on: bool, pen: &mut Pen<'_>)
-    requires room { pen.old.at + length (counted (part address on rows.now)) ≤ length pen.old.out.now }
-    requires few { length (part address on rows.now) ≤ 98 }
-    ensures bytes { Put pen.old.out.now pen.old.at (counted (part address on rows.now)) pen.new.at pen.new.out.now }
-    ensures same_buffer { pen.new.out.ghost_name ≡ pen.old.out.ghost_name }
-{
-    let count = count_rows(rows, address, on);
-    pen.put(&[(count % 0x80) as u8, (count / 0x80) as u8]);
-    put_ids(rows, address, on, pen);
+    Part { rows, address, on }.count()
 }
 
 /// Writes the reply to a listing inquiry at an address, as `write` writes a message.
@@ -78,13 +101,18 @@ pub fn write_profile_reply(
 ) -> Result<usize, Refusal>
     ensures { Written (encode (profile_list own.number to.number address.byte rows.now)) out.old at result out.new }
 {
-    let on = count_rows(rows, address.byte, true);
-    let off = count_rows(rows, address.byte, false);
-    if on > MOST_ROWS || off > MOST_ROWS - on {
+    let on = Part {
+        rows,
+        address: address.byte,
+        on: true,
+    };
+    let off = Part { on: false, ..on };
+    let (on_count, off_count) = (on.count(), off.count());
+    if on_count > MOST_ROWS || off_count > MOST_ROWS - on_count {
         return Err(Refusal::BufferTooSmall);
     }
     let mut pen = Pen { out, at };
-    if !pen.has_room(19 + 5 * (on + off)) {
+    if !pen.has_room(19 + 5 * (on_count + off_count)) {
         return Err(Refusal::BufferTooSmall);
     }
     let head = Head {
@@ -94,8 +122,8 @@ pub fn write_profile_reply(
         destination: to,
     };
     head.put(&mut pen);
-    put_counted(rows, address.byte, true, &mut pen);
-    put_counted(rows, address.byte, false, &mut pen);
+    on.put(&mut pen);
+    off.put(&mut pen);
     pen.put(&[0xF7]);
     Ok(pen.at)
 }

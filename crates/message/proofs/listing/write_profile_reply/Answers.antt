@@ -14,8 +14,8 @@ returns c =
     let rows = c.args.rows.now in
     let a = c.args.address.byte in
     let m = profile_list c.args.own.number c.args.to.number a rows in
-    let done : Written (encode m) c.args.out.now c.args.at (Ok c.put-2.new.self.at) c.put-2.new.self.out.now =
-    written-whole (omega (arith, length-encode m, length-append (counted (part a true rows)) (counted (part a false rows)), c.count_rows-on.ensures.ids, c.count_rows-off.ensures.ids))
+    let done : Written (encode m) c.args.out.now c.args.at (Ok c.put-4.new.self.at) c.put-4.new.self.out.now =
+    written-whole (omega (arith, length-encode m, length-append (counted (part a true rows)) (counted (part a false rows)), c.count-on_count.ensures.ids, c.count-off_count.ensures.ids))
     (as_bytes (whole_parts SubId.ReplyToProfileInquiry a c.args.own.number c.args.to.number (counted (part a true rows)) (counted (part a false rows)))
-    (and_then c.put.ensures.bytes (and_then c.put_counted.ensures.bytes (and_then c.put_counted-2.ensures.bytes c.put-2.ensures.bytes)))) in
+    (and_then c.put.ensures.bytes (and_then c.put-2.ensures.bytes (and_then c.put-3.ensures.bytes c.put-4.ensures.bytes)))) in
     search (rules, done)
