@@ -1,6 +1,6 @@
 //! Reading messages.
-ghost use Rattle.std.specs.Prelude.{◌≡◌, ℕ, ◌+◌, ◌*◌, ◌<◌, ◌≤◌};
-ghost use Rattle.message.specs.Kinds.{kind_at, least, two_lists};
+ghost use Rattle.std.specs.Prelude.{◌≡◌, ℕ, ◌+◌, ◌*◌, ◌<◌, ◌≤◌, length, take, drop, MatchOption};
+ghost use Rattle.message.specs.Kinds.{other, count_at, kind_at, least, two_lists};
 ghost use Rattle.message.specs.Reading.{kind_of, reads, told};
 ghost use Rattle.message.specs.Shapes.{Shaped, ShapedReading};
 
@@ -16,26 +16,23 @@ pub fn muid_number(a: u8, b: u8, c: u8, d: u8) -> u32
     u32::from(a) + u32::from(b) * 0x80 + u32::from(c) * 0x4000 + u32::from(d) * 0x20_0000
 }
 
-/// The two counted lists of Profile IDs of a reply.
-fn two_lists(body: &[u8]) -> Content<'_>
-    ensures value { kind_of result ≡ two_lists body.now }
-    ensures shape { Shaped (kind_of result) }
+/// The counted list of Profile IDs in front and what follows it, unless the bytes end before it does.
+fn counted_list(bytes: &[u8]) -> Option<(&[u8], &[u8])>
+    ensures { MatchOption result (length bytes.now < 2 + 5 * count_at 0 bytes.now) (λ p. (p.0.now ≡ take (5 * count_at 0 bytes.now) (drop 2 bytes.now)) × (p.1.now ≡ drop (2 + 5 * count_at 0 bytes.now) bytes.now) × (2 + 5 * count_at 0 bytes.now ≤ length bytes.now)) }
 {
-    if body.len() < 4 {
-        return Content::Other;
-    }
-    let on = 5 * (usize::from(body[0]) + usize::from(body[1]) * 0x80);
-    if body.len() < 4 + on {
-        return Content::Other;
-    }
-    let off = 5 * (usize::from(body[2 + on]) + usize::from(body[3 + on]) * 0x80);
-    if body.len() < 4 + on + off {
-        return Content::Other;
-    }
-    Content::ProfileReply {
-        on: &body[2..2 + on],
-        off: &body[4 + on..4 + on + off],
-    }
+    let [low, high, rest @ ..] = bytes else {
+        return None;
+    };
+    rest.split_at_checked(5 * (usize::from(*low) + usize::from(*high) * 0x80))
+}
+
+/// The two counted lists of Profile IDs of a reply.
+fn two_lists(body: &[u8]) -> Option<Content<'_>>
+    ensures { MatchOption result (two_lists body.now ≡ other) (λ c. (kind_of c ≡ two_lists body.now) × Shaped (kind_of c)) }
+{
+    let (on, rest) = counted_list(body)?;
+    let (off, _) = counted_list(rest)?;
+    Some(Content::ProfileReply { on, off })
 }
 
 /// The least length of a message, by its Sub-ID and version.
@@ -67,7 +64,7 @@ fn content(sub: u8, version: u8, body: &[u8]) -> Content<'_>
     };
     match kind {
         SubId::ProfileInquiry => Content::ProfileInquiry,
-        SubId::ReplyToProfileInquiry => two_lists(body),
+        SubId::ReplyToProfileInquiry => two_lists(body).unwrap_or(Content::Other),
         SubId::SetProfileOn => Content::SetOn(&body[0..5]),
         SubId::SetProfileOff => Content::SetOff(&body[0..5]),
         SubId::ProfileEnabledReport if body.len() >= 5 => Content::Enabled(&body[0..5]),
