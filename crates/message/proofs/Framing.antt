@@ -1,16 +1,13 @@
 -- What the frame test tells of the bytes, and what reading them gives.
-use Rattle.std.proofs.Common.{◌≡◌, ℕ, zero, suc, ◌+◌, ◌-◌, ◌*◌, ◌<◌, ◌≤◌, true, false, ltb, List, [], ◌∷◌, length, get_or, take, drop, sym, ap, ◌∙◌, arith}
+use Rattle.std.proofs.Common.{◌≡◌, ℕ, zero, suc, ◌+◌, ◌-◌, ◌*◌, ◌<◌, ◌≤◌, true, ltb, List, [], ◌∷◌, length, get_or, take, drop, sym, ap, ◌∙◌, arith}
 use Rattle.std.proofs.lemmas.List.{take_rest, get_or-drop, get_or-take, drop-drop}
-use Rattle.std.proofs.lemmas.Bool.{cond-true, cond-false, and_parts}
+use Rattle.std.proofs.lemmas.Bool.{cond-true, and_parts}
 use Rattle.std.proofs.lemmas.Bool.Decides.{nat_tests}
 use Rattle.message.specs.Bytes.{sevens}
 use Rattle.message.specs.Messages.{framed, fields, number_at}
 use Rattle.message.specs.Kinds.{Kind, kind_at, kind}
 use Rattle.message.specs.Reading.{refused, message, taken_apart, reads}
 use Rattle.message.specs.declared.refusal.Refusal.{Refusal}
-
-pub unframed : (bs : List ℕ) → framed bs ≡ false → refused Refusal.NotFramed ≡ reads bs
-unframed bs e = sym (cond-false (framed bs) _ _ e)
 
 -- what stands after the version, as a slice pattern has it
 abbrev pub rest : List ℕ → List ℕ

@@ -2,6 +2,7 @@
 use Rattle.std.proofs.Common.{◌≡◌, ℕ, ◌+◌, ◌-◌, ◌*◌, ◌/◌, ◌%◌, ◌<◌, ◌≤◌, Bool, true, false, cond, ◌||◌, eqb, ltb, leb, List, [], ◌∷◌, ◌++◌, length, get_or, take, drop, sym, refl, ap, ◌∙◌, ⊎_elim, arith}
 use Rattle.std.proofs.lemmas.List.{append_assoc, append-nil, length-append, take_at, take_all, drop_at, get_or_at, get_or_push}
 use Rattle.std.proofs.lemmas.Bool.{and_parts, and_from, or_cases, le-leb, le-ltb, eq-eqb, eqb-true, leb-true, ltb-true, lt-ltb, cond-true, cond-false}
+use Rattle.std.proofs.lemmas.List.Folds.{list_all-append}
 use Rattle.message.specs.Bytes.{sevens, is_address, is_id}
 use Rattle.message.specs.Codes.{code, status_code}
 use Rattle.message.specs.Messages.{Fields, muid, encode, framed, fields}
@@ -32,8 +33,7 @@ pub record Good (m : Fields) : Type 0 where
   pub body : sevens m.body ≡ true
 
 pub sevens-append : (xs ys : List ℕ) → sevens xs ≡ true → sevens ys ≡ true → sevens (xs ++ ys) ≡ true
-sevens-append [] ys h k = k
-sevens-append (x ∷ xs) ys h k = let p = and_parts (ltb x 0x80) (sevens xs) h in and_from _ _ p.0 (sevens-append xs ys p.1 k)
+sevens-append xs ys h k = list_all-append (λ b. ltb b 0x80) xs ys ∙ and_from _ _ h k
 
 pub one_seven : (x : ℕ) → x < 0x80 → sevens (x ∷ []) ≡ true
 one_seven x h = and_from _ _ (lt-ltb x 0x80 h) refl

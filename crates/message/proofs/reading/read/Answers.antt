@@ -1,21 +1,8 @@
 use Rattle.std.proofs.Common.{◌≡◌, true, arith}
 use Rattle.std.proofs.lemmas.Bool.Decides.{nat_tests}
 use Rattle.message.specs.Messages.{framed}
-use Rattle.message.proofs.Framing.{unframed, well_framed, number_fits, header-low}
+use Rattle.message.proofs.Framing.{well_framed, number_fits, header-low}
 use Rattle.message.proofs.reading.read.Goals as goal
-
-pub returns-in_default : goal.returns-in_default
-returns-in_default c =
-    record {
-      shape = tt;
-      value = unframed c.args.message.now
-          (elim c.in_default.branch [
-            | goal.in_default-via-then-message-lt6 w ↦ grind (arith, nat_tests)
-            | goal.in_default-via-else-message-lt6+in-240+in-126+in_default-1 w ↦ grind (arith, nat_tests)
-            | goal.in_default-via-else-message-lt6+in-240+in_default-1 w ↦ grind (arith, nat_tests)
-            | goal.in_default-via-else-message-lt6+in_default-1 w ↦ grind (arith, nat_tests)
-          ]);
-    }
 
 pub returns : goal.returns
 returns c =
