@@ -84,22 +84,18 @@ pub fn read(message: &[u8]) -> Result<Message<'_>, Refusal>
     ensures value { told result ≡ reads message.now }
     ensures shape { ShapedReading (told result) }
 {
-    let length = message.len();
-    if length < 15 || length > 512 {
-        return Err(Refusal::NotFramed);
-    }
-    let [0xF0, 0x7E, address, 0x0D, sub, version, rest @ ..] = message else {
+    let [0xF0, 0x7E, address, 0x0D, sub, version, a, b, c, d, e, f, g, h, body @ .., 0xF7] = message else {
         return Err(Refusal::NotFramed);
     };
-    if message[length - 1] != 0xF7 || !all_seven_bits(&message[1..length - 1]) {
+    if message.len() > 512 || !all_seven_bits(&message[1..message.len() - 1]) {
         return Err(Refusal::NotFramed);
     }
     Ok(Message {
         address: *address,
         sub_id: *sub,
         version: *version,
-        source: muid_number(rest[0], rest[1], rest[2], rest[3]),
-        destination: muid_number(rest[4], rest[5], rest[6], rest[7]),
-        content: content(*sub, *version, &rest[8..length - 7]),
+        source: muid_number(*a, *b, *c, *d),
+        destination: muid_number(*e, *f, *g, *h),
+        content: content(*sub, *version, body),
     })
 }
