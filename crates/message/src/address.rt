@@ -13,6 +13,7 @@ pub struct Address {
 
 impl Address {
     /// The address that a byte says, unless it says none.
+    // No `TryFrom`: its error would only say the byte again, and callers have their own refusals.
     pub fn new(byte: u8) -> Option<Address>
         ensures { MatchOption result (is_address byte ≡ false) (λ a. a.byte ≡ byte) }
     {

@@ -44,7 +44,7 @@ impl Part<'_> {
     {
         let rows = self.rows;
         let mut count = 0;
-        // By an index, as a rule of the project has it.
+        // A rule of the project: the rows at an address are counted by an index.
         for k in 0..rows.len() {
             if rows[k].stands_at(self.address, self.on) {
                 count += 1;
@@ -60,7 +60,7 @@ impl Part<'_> {
         ensures same_buffer { pen.new.out.ghost_name ≡ pen.old.out.ghost_name }
     {
         let rows = self.rows;
-        // By an index, as a rule of the project has it.
+        // A rule of the project: replies are written by loops over rows with an index.
         for k in 0..rows.len() {
             if rows[k].stands_at(self.address, self.on) {
                 pen.put(&rows[k].id);
@@ -76,6 +76,7 @@ impl Part<'_> {
         ensures same_buffer { pen.new.out.ghost_name ≡ pen.old.out.ghost_name }
     {
         let count = self.count();
+        // `as` narrows what has seven bits: `try_from` would be no plainer, with an error that cannot be.
         pen.put(&[(count % 0x80) as u8, (count / 0x80) as u8]);
         self.put_ids(pen);
     }

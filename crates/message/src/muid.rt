@@ -19,6 +19,7 @@ pub struct Muid {
 
 impl Muid {
     /// The MUID of that number, unless it has more than 28 bits.
+    // No `TryFrom`: its error would only say the number again, and callers have their own refusals.
     pub fn new(number: u32) -> Option<Muid>
         ensures { MatchOption result (0x10000000 ≤ number) (λ m. m.number ≡ number) }
     {
@@ -43,6 +44,7 @@ impl Muid {
         ensures { result ≡ muid self.number }
     {
         let n = self.number;
+        // `as` narrows what has seven bits: `try_from` would be no plainer, with an error that cannot be.
         [
             (n % 0x80) as u8,
             (n / 0x80 % 0x80) as u8,

@@ -3,7 +3,7 @@ ghost use Rattle.std.specs.Prelude.{◌≡◌, ℕ, ◌+◌, ◌≤◌, length};
 ghost use Rattle.message.specs.Writing.{room_for, Put};
 
 /// The most bytes that a message has.
-const LONGEST: usize = 512;
+pub(crate) const LONGEST: usize = 512;
 
 /// A lent buffer, and the place where the next bytes go.
 #[derive(Drop)]

@@ -6,10 +6,12 @@ ghost use Rattle.message.specs.Shapes.{Shaped, ShapedReading};
 
 use crate::bytes::all_seven_bits;
 use crate::message::{Content, Message};
+use crate::pen::LONGEST;
 use crate::refusal::Refusal;
 use crate::sub_id::SubId;
 
 /// The number that four bytes of seven bits say, lowest first.
+// Four bytes and no array: callers have them from a pattern or a slice, and would first make one.
 pub fn muid_number(a: u8, b: u8, c: u8, d: u8) -> u32
     ensures { result ≡ a + b * 0x80 + c * 0x4000 + d * 0x200000 }
 {
@@ -84,18 +86,36 @@ pub fn read(message: &[u8]) -> Result<Message<'_>, Refusal>
     ensures value { told result ≡ reads message.now }
     ensures shape { ShapedReading (told result) }
 {
-    let [0xF0, 0x7E, address, 0x0D, sub, version, a, b, c, d, e, f, g, h, body @ .., 0xF7] = message else {
+    let [
+        0xF0,
+        0x7E,
+        address,
+        0x0D,
+        sub,
+        version,
+        s0,
+        s1,
+        s2,
+        s3,
+        d0,
+        d1,
+        d2,
+        d3,
+        body @ ..,
+        0xF7,
+    ] = message
+    else {
         return Err(Refusal::NotFramed);
     };
-    if message.len() > 512 || !all_seven_bits(&message[1..message.len() - 1]) {
+    if message.len() > LONGEST || !all_seven_bits(&message[1..message.len() - 1]) {
         return Err(Refusal::NotFramed);
     }
     Ok(Message {
         address: *address,
         sub_id: *sub,
         version: *version,
-        source: muid_number(*a, *b, *c, *d),
-        destination: muid_number(*e, *f, *g, *h),
+        source: muid_number(*s0, *s1, *s2, *s3),
+        destination: muid_number(*d0, *d1, *d2, *d3),
         content: content(*sub, *version, body),
     })
 }

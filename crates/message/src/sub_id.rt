@@ -21,6 +21,7 @@ pub enum SubId {
 
 impl SubId {
     /// The byte that stands for it in a message.
+    // No `From` for `u8`: `u8::from(id)` is no plainer than `id.byte()`.
     pub fn byte(self) -> u8
         ensures { result ≡ code self }
     {
@@ -67,6 +68,7 @@ pub enum NakStatus {
 
 impl NakStatus {
     /// The byte that stands for it in a NAK.
+    // No `From` for `u8`: `u8::from(status)` is no plainer than `status.byte()`.
     pub fn byte(self) -> u8
         ensures { result ≡ status_code self }
     {
