@@ -1,5 +1,6 @@
 //! Reading messages.
 ghost use Rattle.std.specs.Prelude.{◌≡◌, ℕ, ◌+◌, ◌*◌, ◌<◌, ◌≤◌, length, take, drop, MatchOption};
+ghost use Rattle.message.specs.Codes.{code};
 ghost use Rattle.message.specs.Kinds.{other, count_at, kind_at, least, two_lists};
 ghost use Rattle.message.specs.Reading.{kind_of, reads, told};
 ghost use Rattle.message.specs.Shapes.{Shaped, ShapedReading};
@@ -37,19 +38,32 @@ fn two_lists(body: &[u8]) -> Option<Content<'_>>
     Some(Content::ProfileReply { on, off })
 }
 
+impl SubId {
+    /// The least length of its messages, by their version.
+    fn least_length(self, version: u8) -> usize
+        ensures value { result ≡ least (code self) version }
+        ensures bound { 15 ≤ result }
+    {
+        match self {
+            SubId::SetProfileOn | SubId::SetProfileOff if version <= 1 => 20,
+            SubId::SetProfileOn | SubId::SetProfileOff => 22,
+            SubId::Discovery | SubId::ReplyToDiscovery if version <= 1 => 31,
+            SubId::Discovery => 32,
+            SubId::ReplyToDiscovery => 33,
+            SubId::InvalidateMuid => 19,
+            _ => 15,
+        }
+    }
+}
+
 /// The least length of a message, by its Sub-ID and version.
 pub fn least_length(sub: u8, version: u8) -> usize
     ensures value { result ≡ least sub version }
     ensures bound { 15 ≤ result }
 {
     match SubId::try_from(sub) {
-        Ok(SubId::SetProfileOn | SubId::SetProfileOff) if version <= 1 => 20,
-        Ok(SubId::SetProfileOn | SubId::SetProfileOff) => 22,
-        Ok(SubId::Discovery | SubId::ReplyToDiscovery) if version <= 1 => 31,
-        Ok(SubId::Discovery) => 32,
-        Ok(SubId::ReplyToDiscovery) => 33,
-        Ok(SubId::InvalidateMuid) => 19,
-        _ => 15,
+        Ok(id) => id.least_length(version),
+        Err(_) => 15,
     }
 }
 
@@ -58,13 +72,13 @@ fn content(sub: u8, version: u8, body: &[u8]) -> Content<'_>
     ensures value { kind_of result ≡ kind_at sub version body.now }
     ensures shape { Shaped (kind_of result) }
 {
-    if version == 0 || body.len() < least_length(sub, version) - 15 {
-        return Content::Other;
-    }
-    let Ok(kind) = SubId::try_from(sub) else {
+    let Ok(id) = SubId::try_from(sub) else {
         return Content::Other;
     };
-    match kind {
+    if version == 0 || body.len() < id.least_length(version) - 15 {
+        return Content::Other;
+    }
+    match id {
         SubId::ProfileInquiry => Content::ProfileInquiry,
         SubId::ReplyToProfileInquiry => two_lists(body).unwrap_or(Content::Other),
         SubId::SetProfileOn => Content::SetOn(&body[0..5]),
