@@ -1,19 +1,15 @@
 -- Framed bytes are laid out as they read.
-use Rattle.std.proofs.Common.{◌≡◌, ℕ, suc, ◌+◌, ◌-◌, ◌*◌, ◌/◌, ◌%◌, ◌<◌, ◌≤◌, Bool, true, false, cond, ◌&&◌, eqb, ltb, leb, List, [], ◌∷◌, ◌++◌, length, get_or, take, drop, sym, refl, ap, ◌∙◌, add-zero, arith}
-use Rattle.std.proofs.lemmas.List.{length-take, take-append-drop, length-drop, drop-drop, get_or-drop, get_or-take, get_or_past}
-use Rattle.std.proofs.lemmas.Bool.{and_parts, eqb-true, eqb-false, leb-true, ltb-true, ltb-false, or_parts, true≢false}
+use Rattle.std.proofs.Common.{◌≡◌, ℕ, zero, suc, ◌+◌, ◌-◌, ◌*◌, ◌/◌, ◌%◌, ◌<◌, ◌≤◌, Bool, true, false, cond, eqb, ltb, leb, List, [], ◌∷◌, ◌++◌, length, get_or, take, drop, sym, refl, ap, ◌∙◌, add-zero, arith}
+use Rattle.std.proofs.Math.Seq.{drop-cons, take-suc}
+use Rattle.std.proofs.lemmas.List.{take_all, length-take, take-append-drop, length-drop, drop-drop, get_or-drop, get_or-take, get_or_past}
+use Rattle.std.proofs.lemmas.Bool.{eqb-true, eqb-false, leb-true, ltb-true, ltb-false, or_parts}
 use Rattle.std.proofs.lemmas.Bool.Decides.{nat_tests}
-use Rattle.message.specs.Bytes.{sevens}
 use Rattle.message.specs.Codes.{code}
 use Rattle.message.specs.Messages.{Fields, muid, encode, framed, fields}
 use Rattle.message.specs.Kinds.{Kind, discovery, discovery_reply, invalidation, profile_inquiry, profile_reply, set_on, set_off, enabled, disabled, added, removed, nak, other, kind, kind_by, least, too_short, count_at, two_lists, with_id}
 use Rattle.message.specs.Laws.{Of, InFront, LaidOut}
 use Rattle.message.specs.declared.sub_id.SubId.{SubId}
 use Rattle.message.proofs.Framing.{inner-low, framed_inside}
-
-last_split : (x : ℕ) (xs : List ℕ) → x ∷ xs ≡ take (length xs) (x ∷ xs) ++ get_or (x ∷ xs) (length xs) 0 ∷ []
-last_split x [] = refl
-last_split x (y ∷ ys) = ap (λ (zs : List ℕ). x ∷ zs) (last_split y ys)
 
 low : (b r : ℕ) → b < 0x80 → (b + r * 0x80) % 0x80 ≡ b
 low b r h = omega arith
@@ -29,48 +25,35 @@ number_forth a b c d ha hb hc =
     let e3 : n / 0x200000 ≡ d = omega arith in
     cc
 
-fixed-bytes : (a b c d e f g : Bool) → (a && (b && (c && (d && (e && (f && g)))))) ≡ true → (c ≡ true) × (d ≡ true) × (e ≡ true) × (f ≡ true)
-fixed-bytes a b c d e f g h =
-    let p1 = and_parts a (b && (c && (d && (e && (f && g))))) h in
-    let p2 = and_parts b (c && (d && (e && (f && g)))) p1.1 in
-    let p3 = and_parts c (d && (e && (f && g))) p2.1 in
-    let p4 = and_parts d (e && (f && g)) p3.1 in
-    let p5 = and_parts e (f && g) p4.1 in
-    let p6 = and_parts f g p5.1 in
-    (p3.0, p4.0, p5.0, p6.0)
+-- n bytes from i on, one by one, and the rest
+abbrev spread : ℕ → ℕ → List ℕ → List ℕ
+spread zero i bs = drop i bs
+spread (suc n) i bs = get_or bs i 0 ∷ spread n (suc i) bs
+
+spread_is : (n i : ℕ) (bs : List ℕ) → i + n ≤ length bs → drop i bs ≡ spread n i bs
+spread_is zero i bs h = refl
+spread_is (suc n) i bs h = drop-cons bs i 0 (omega arith) ∙ ap (λ (xs : List ℕ). get_or bs i 0 ∷ xs) (spread_is n (suc i) bs (omega arith))
+
+fixed-bytes : (bs : List ℕ) → framed bs ≡ true
+    → (get_or bs 0 0 ≡ 0xF0) × (get_or bs 1 0 ≡ 0x7E) × (get_or bs 3 0 ≡ 0x0D) × (get_or bs (length bs - 1) 0 ≡ 0xF7)
+fixed-bytes bs h = (grind (arith, nat_tests), grind (arith, nat_tests), grind (arith, nat_tests), grind (arith, nat_tests))
 
 -- the bytes are the layout of their fields
 encode-fields : (bs : List ℕ) → framed bs ≡ true → encode (fields bs) ≡ bs
-encode-fields ([]) h = absurd (true≢false (sym h))
-encode-fields (x0 ∷ []) h = absurd (true≢false (sym h))
-encode-fields (x0 ∷ x1 ∷ []) h = absurd (true≢false (sym h))
-encode-fields (x0 ∷ x1 ∷ x2 ∷ []) h = absurd (true≢false (sym h))
-encode-fields (x0 ∷ x1 ∷ x2 ∷ x3 ∷ []) h = absurd (true≢false (sym h))
-encode-fields (x0 ∷ x1 ∷ x2 ∷ x3 ∷ x4 ∷ []) h = absurd (true≢false (sym h))
-encode-fields (x0 ∷ x1 ∷ x2 ∷ x3 ∷ x4 ∷ x5 ∷ []) h = absurd (true≢false (sym h))
-encode-fields (x0 ∷ x1 ∷ x2 ∷ x3 ∷ x4 ∷ x5 ∷ x6 ∷ []) h = absurd (true≢false (sym h))
-encode-fields (x0 ∷ x1 ∷ x2 ∷ x3 ∷ x4 ∷ x5 ∷ x6 ∷ x7 ∷ []) h = absurd (true≢false (sym h))
-encode-fields (x0 ∷ x1 ∷ x2 ∷ x3 ∷ x4 ∷ x5 ∷ x6 ∷ x7 ∷ x8 ∷ []) h = absurd (true≢false (sym h))
-encode-fields (x0 ∷ x1 ∷ x2 ∷ x3 ∷ x4 ∷ x5 ∷ x6 ∷ x7 ∷ x8 ∷ x9 ∷ []) h = absurd (true≢false (sym h))
-encode-fields (x0 ∷ x1 ∷ x2 ∷ x3 ∷ x4 ∷ x5 ∷ x6 ∷ x7 ∷ x8 ∷ x9 ∷ x10 ∷ []) h = absurd (true≢false (sym h))
-encode-fields (x0 ∷ x1 ∷ x2 ∷ x3 ∷ x4 ∷ x5 ∷ x6 ∷ x7 ∷ x8 ∷ x9 ∷ x10 ∷ x11 ∷ []) h = absurd (true≢false (sym h))
-encode-fields (x0 ∷ x1 ∷ x2 ∷ x3 ∷ x4 ∷ x5 ∷ x6 ∷ x7 ∷ x8 ∷ x9 ∷ x10 ∷ x11 ∷ x12 ∷ []) h = absurd (true≢false (sym h))
-encode-fields (x0 ∷ x1 ∷ x2 ∷ x3 ∷ x4 ∷ x5 ∷ x6 ∷ x7 ∷ x8 ∷ x9 ∷ x10 ∷ x11 ∷ x12 ∷ x13 ∷ []) h = absurd (true≢false (sym h))
-encode-fields (x0 ∷ x1 ∷ x2 ∷ x3 ∷ x4 ∷ x5 ∷ x6 ∷ x7 ∷ x8 ∷ x9 ∷ x10 ∷ x11 ∷ x12 ∷ x13 ∷ y ∷ ys) h =
-    let bs : List ℕ = x0 ∷ x1 ∷ x2 ∷ x3 ∷ x4 ∷ x5 ∷ x6 ∷ x7 ∷ x8 ∷ x9 ∷ x10 ∷ x11 ∷ x12 ∷ x13 ∷ y ∷ ys in
+encode-fields bs h =
     let s = (framed_inside bs h).1 in
     let long = (framed_inside bs h).0 in
-    let p = fixed-bytes (leb 15 (length bs)) (leb (length bs) 512) (eqb x0 0xF0) (eqb x1 0x7E) (eqb x3 0x0D) (eqb (get_or bs (length bs - 1) 0) 0xF7) (sevens (take (length bs - 2) (drop 1 bs))) h in
-    let e0 = eqb-true x0 0xF0 p.0 in
-    let e1 = eqb-true x1 0x7E p.1 in
-    let e3 = eqb-true x3 0x0D p.2 in
-    let place : length bs - 1 ≡ suc (suc (suc (suc (suc (suc (suc (suc (suc (suc (suc (suc (suc (suc (length ys)))))))))))))) = omega arith in
-    let size : length bs - 15 ≡ length ys = omega arith in
-    let last : get_or (y ∷ ys) (length ys) 0 ≡ 0xF7 = ap (λ (n : ℕ). get_or bs n 0) (sym place) ∙ eqb-true (get_or bs (length bs - 1) 0) 0xF7 p.3 in
-    let source = number_forth x6 x7 x8 x9 (inner-low bs 5 s (omega arith)) (inner-low bs 6 s (omega arith)) (inner-low bs 7 s (omega arith)) in
-    let destination = number_forth x10 x11 x12 x13 (inner-low bs 9 s (omega arith)) (inner-low bs 10 s (omega arith)) (inner-low bs 11 s (omega arith)) in
-    let tail : take (length bs - 15) (y ∷ ys) ++ 0xF7 ∷ [] ≡ y ∷ ys =
-    ap (λ (n : ℕ). take n (y ∷ ys) ++ 0xF7 ∷ []) size ∙ ap (λ (x : ℕ). take (length ys) (y ∷ ys) ++ x ∷ []) (sym last) ∙ sym (last_split y ys) in
+    let fixed = fixed-bytes bs h in
+    let low : (k : ℕ) → k + 2 < length bs → get_or bs (1 + k) 0 < 0x80 = λ k r. inner-low bs k s r in
+    let source = number_forth (get_or bs 6 0) (get_or bs 7 0) (get_or bs 8 0) (get_or bs 9 0) (low 5 (omega arith)) (low 6 (omega arith)) (low 7 (omega arith)) in
+    let destination = number_forth (get_or bs 10 0) (get_or bs 11 0) (get_or bs 12 0) (get_or bs 13 0) (low 9 (omega arith)) (low 10 (omega arith)) (low 11 (omega arith)) in
+    let n = length-drop 14 bs in
+    let size : length (drop 14 bs) ≤ suc (length bs - 15) = omega arith in
+    let place : 14 + (length bs - 15) ≡ length bs - 1 = omega arith in
+    let last = get_or-drop 14 bs (length bs - 15) 0 ∙ ap (λ (k : ℕ). get_or bs k 0) place in
+    let tail = take-suc (drop 14 bs) (length bs - 15) 0 (omega arith) in
+    let all = take_all (suc (length bs - 15)) (drop 14 bs) size in
+    let whole = spread_is 14 0 bs (omega arith) in
     cc
 
 fork : (P : Kind → Type 0) (b : Bool) (x y : Kind) → (b ≡ true → P x) → (b ≡ false → P y) → P (cond b x y)

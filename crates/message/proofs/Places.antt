@@ -1,13 +1,12 @@
 -- One write after another into a buffer.
-use Rattle.std.proofs.Common.{◌≡◌, ℕ, ◌+◌, ◌<◌, ◌≤◌, Bool, true, false, ◌&&◌, leb, List, [], ◌++◌, length, Ok, Err, sym, refl, ap, ◌∙◌, subst, add-zero, arith}
+use Rattle.std.proofs.Common.{◌≡◌, ℕ, ◌+◌, ◌≤◌, true, List, [], ◌++◌, length, Ok, sym, refl, ap, ◌∙◌, subst, add-zero, arith}
 use lib.Seq.{paste}
 use borrow.Rule.Slice.PartMut.{put_mid}
 use Rattle.std.proofs.lemmas.List.{length-append, take-append-drop}
 use Rattle.std.proofs.lemmas.List.Edits.{paste-paste, paste_all, length-paste}
 use Rattle.std.proofs.lemmas.Slice.{put_mid-paste}
-use Rattle.std.proofs.lemmas.Bool.{and_from, cond-true, cond-false, le-leb, lt-leb}
+use Rattle.std.proofs.lemmas.Bool.{and_from, cond-true, le-leb}
 use Rattle.message.specs.Writing.{written, room_for, Put, Left, Written}
-use Rattle.message.specs.declared.refusal.Refusal.{Refusal}
 
 pub written_paste : (b : List ℕ) (at : ℕ) (xs : List ℕ) → paste b at xs (length xs) ≡ written b at xs
 unfolding written
@@ -93,14 +92,3 @@ pub written-whole : {before : List ℕ} {at : ℕ} {bytes : List ℕ} {end : ℕ
 written-whole {before} {at} {bytes} {end} {after} few p =
     let f : room_for (length bytes) before at ≡ true = and_from _ _ (le-leb (length bytes) 512 few) (le-leb (at + length bytes) (length before) p.room) in
     record { value = ap Ok p.ends ∙ sym (cond-true _ _ _ f); holds = p.holds ∙ sym (cond-true _ _ _ f) }
-
--- over 512 bytes nothing fits
-pub too_long : (n : ℕ) (before : List ℕ) (at : ℕ) → 512 < n → room_for n before at ≡ false
-too_long n before at h = ap (λ (b : Bool). b && leb (at + n) (length before)) (lt-leb n 512 h)
-
--- one that does not fit is refused
-pub written_not : {before : List ℕ} {at : ℕ} {bytes : List ℕ} (n : ℕ) → n ≡ length bytes → room_for n before at ≡ false
-    → Written bytes before at (Err Refusal.BufferTooSmall) before
-written_not {before} {at} n e f =
-    let g = ap (λ (k : ℕ). room_for k before at) (sym e) ∙ f in
-    record { value = sym (cond-false _ _ _ g); holds = sym (cond-false _ _ _ g) }

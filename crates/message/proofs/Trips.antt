@@ -1,7 +1,9 @@
 -- What is written reads back.
-use Rattle.std.proofs.Common.{◌≡◌, ℕ, ◌+◌, ◌-◌, ◌*◌, ◌/◌, ◌%◌, ◌<◌, ◌≤◌, Bool, true, false, cond, ◌||◌, eqb, ltb, leb, List, [], ◌∷◌, ◌++◌, length, get_or, take, drop, sym, refl, ap, ◌∙◌, ⊎_elim, arith}
+use Rattle.std.proofs.Common.{◌≡◌, ℕ, ◌+◌, ◌-◌, ◌*◌, ◌/◌, ◌%◌, ◌<◌, ◌≤◌, Bool, true, false, cond, eqb, ltb, leb, List, [], ◌∷◌, ◌++◌, length, get_or, take, drop, sym, refl, ap, ◌∙◌, arith}
 use Rattle.std.proofs.lemmas.List.{append_assoc, append-nil, length-append, take_at, take_all, drop_at, get_or_at, get_or_push}
-use Rattle.std.proofs.lemmas.Bool.{and_parts, and_from, or_cases, le-leb, le-ltb, eq-eqb, eqb-true, leb-true, ltb-true, lt-ltb, cond-true, cond-false}
+use Rattle.std.proofs.lemmas.Bool.{and_parts, and_from, le-leb, le-ltb, eq-eqb, eqb-true, lt-ltb, cond-true, cond-false}
+use Rattle.std.proofs.lemmas.List.Folds.{list_all-append}
+use Rattle.std.proofs.lemmas.Bool.Decides.{nat_tests}
 use Rattle.message.specs.Bytes.{sevens, is_address, is_id}
 use Rattle.message.specs.Codes.{code, status_code}
 use Rattle.message.specs.Messages.{Fields, muid, encode, framed, fields}
@@ -32,17 +34,13 @@ pub record Good (m : Fields) : Type 0 where
   pub body : sevens m.body ≡ true
 
 pub sevens-append : (xs ys : List ℕ) → sevens xs ≡ true → sevens ys ≡ true → sevens (xs ++ ys) ≡ true
-sevens-append [] ys h k = k
-sevens-append (x ∷ xs) ys h k = let p = and_parts (ltb x 0x80) (sevens xs) h in and_from _ _ p.0 (sevens-append xs ys p.1 k)
+sevens-append xs ys h k = list_all-append (λ b. ltb b 0x80) xs ys ∙ and_from _ _ h k
 
 pub one_seven : (x : ℕ) → x < 0x80 → sevens (x ∷ []) ≡ true
-one_seven x h = and_from _ _ (lt-ltb x 0x80 h) refl
+one_seven x h = grind (arith, nat_tests)
 
 pub muid-sevens : (n : ℕ) → n < 0x10000000 → sevens (muid n) ≡ true
-muid-sevens n h =
-    and_from _ _ (lt-ltb (n % 0x80) 0x80 (omega arith))
-    (and_from _ _ (lt-ltb (n / 0x80 % 0x80) 0x80 (omega arith))
-    (and_from _ _ (lt-ltb (n / 0x4000 % 0x80) 0x80 (omega arith)) (one_seven (n / 0x200000) (omega arith))))
+muid-sevens n h = grind (arith, nat_tests)
 
 -- all but the first and the last byte
 abbrev inner : Fields → List ℕ
@@ -50,9 +48,9 @@ inner m = 0x7E ∷ m.address ∷ 0x0D ∷ m.sub ∷ m.version ∷ (muid m.source
 
 inner-sevens : (m : Fields) → Good m → sevens (inner m) ≡ true
 inner-sevens m g =
-    and_from _ _ (lt-ltb m.address 0x80 g.address) (and_from _ _ (lt-ltb m.sub 0x80 g.sub) (and_from _ _ (lt-ltb m.version 0x80 g.version)
-    (sevens-append (muid m.source) (muid m.destination ++ m.body) (muid-sevens m.source g.source)
-    (sevens-append (muid m.destination) m.body (muid-sevens m.destination g.destination) g.body))))
+    let head = muid-sevens m.source g.source in
+    let tail = sevens-append (muid m.destination) m.body (muid-sevens m.destination g.destination) g.body in
+    grind (arith, nat_tests)
 
 last_encode : (m : Fields) → get_or (encode m) (length (encode m) - 1) 0 ≡ 0xF7
 last_encode m = get_or_push (0xF0 ∷ inner m) 0xF7 0 (length (encode m) - 1) (omega (arith, length-append m.body (0xF7 ∷ [])))
@@ -95,13 +93,10 @@ sends_good : (own a : ℕ) (sub : SubId) (to : ℕ) (body : List ℕ) → own < 
 sends_good own a sub to body o h s t b = record { address = h; sub = s; version = omega arith; source = o; destination = t; body = b }
 
 pub address_low : (a : Address) → a.byte < 0x80
-address_low a =
-    ⊎_elim (λ t. let q = ltb-true a.byte 0x10 t in omega arith)
-    (λ t. ⊎_elim (λ u. let q = eqb-true a.byte 0x7E u in omega arith) (λ u. let q = eqb-true a.byte 0x7F u in omega arith) (or_cases (eqb a.byte 0x7E) (eqb a.byte 0x7F) t))
-    (or_cases (ltb a.byte 0x10) (eqb a.byte 0x7E || eqb a.byte 0x7F) a.known)
+address_low a = let known = a.known in grind (arith, nat_tests)
 
 pub id_sevens : (i : ProfileId) → (length i.bytes ≡ 5) × (sevens i.bytes ≡ true)
-id_sevens i = let p = and_parts (eqb (length i.bytes) 5) (sevens i.bytes) i.low in (eqb-true _ _ p.0, p.1)
+id_sevens i = let low = i.low in (grind (arith, nat_tests), grind (arith, nat_tests))
 
 channels-sevens : (a : ℕ) → sevens (channels a) ≡ true
 channels-sevens a = go (ltb a 0x10)
@@ -111,12 +106,10 @@ channels-sevens a = go (ltb a 0x10)
     go false = refl
 
 pub identity-sevens : (d : Identity) → (length d.bytes ≡ 11) × (sevens d.bytes ≡ true)
-identity-sevens d = let p = and_parts (eqb (length d.bytes) 11) (sevens d.bytes) d.low in (eqb-true _ _ p.0, p.1)
+identity-sevens d = let low = d.low in (grind (arith, nat_tests), grind (arith, nat_tests))
 
 block-low : (d : Identity) → d.block < 0x80
-block-low d =
-    ⊎_elim (λ t. let q = leb-true d.block 31 t in omega arith) (λ t. let q = eqb-true d.block 127 t in omega arith)
-    (or_cases (leb d.block 31) (eqb d.block 127) d.known)
+block-low d = let known = d.known in grind (arith, nat_tests)
 
 status_low : (s : NakStatus) → status_code s < 0x80
 status_low NotSupported = omega arith

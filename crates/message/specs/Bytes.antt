@@ -1,10 +1,10 @@
 -- What the bytes inside a message may be.
-use Rattle.std.specs.Prelude.{ℕ, Bool, true, ◌&&◌, ◌||◌, List, [], ◌∷◌, length, ◌==◌, nat_le, nat_lt}
+use Rattle.std.specs.Prelude.{ℕ, Bool, ◌&&◌, ◌||◌, List, length, ◌==◌, nat_le, nat_lt}
+use Rattle.std.specs.List.{list_all}
 
 -- every byte has seven bits
 abbrev pub sevens : List ℕ → Bool
-sevens [] = true
-sevens (b ∷ bs) = nat_lt b 0x80 && sevens bs
+sevens bs = list_all (λ b. nat_lt b 0x80) bs
 
 -- Channels 1 to 16 are 00h to 0Fh, the Group is 7Eh, the Function Block 7Fh
 abbrev pub is_address : ℕ → Bool

@@ -3,6 +3,7 @@ use Rattle.std.specs.Prelude.{ℕ, Bool, true, false, cond, not, ◌&&◌, List,
 use Rattle.rising.specs.Order.{Key}
 use Rattle.message.specs.Bytes.{is_address, is_id}
 use Rattle.message.specs.declared.row.Row.{Row}
+use Rattle.message.specs.declared.listing.Part.{Part}
 
 -- rows stand in the order of their addresses, and at one address of their ID bytes
 abbrev pub row_key : Row → Key
@@ -24,6 +25,9 @@ stands a on r = r.address == a && agree r.on on
 -- the rows at the address that are on, or off, in the listing's order
 abbrev pub part : ℕ → Bool → List Row → List Row
 part a on l = keep (stands a on) l
+
+abbrev pub rows_of : Part → List Row
+rows_of p = part p.address p.on p.rows.now
 
 -- a row in range
 abbrev pub ranged : ℕ → List ℕ → Bool

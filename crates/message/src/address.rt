@@ -13,10 +13,11 @@ pub struct Address {
 
 impl Address {
     /// The address that a byte says, unless it says none.
+    // No `TryFrom`: its error would only say the byte again, and callers have their own refusals.
     pub fn new(byte: u8) -> Option<Address>
         ensures { MatchOption result (is_address byte ≡ false) (λ a. a.byte ≡ byte) }
     {
-        if (byte < 0x10) | ((byte == 0x7E) | (byte == 0x7F)) {
+        if matches!(byte, 0x00..=0x0F | 0x7E | 0x7F) {
             Some(Address { byte })
         } else {
             None

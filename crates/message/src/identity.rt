@@ -19,10 +19,7 @@ impl Identity {
     pub fn new(bytes: [u8; 11], block: u8) -> Result<Identity, Refusal>
         ensures { MatchResult result (λ i. (i.bytes ≡ bytes) × (i.block ≡ block)) (λ e. (e ≡ Refusal.FieldOutOfRange) × ((is_identity bytes && is_block block) ≡ false)) }
     {
-        if !all_seven_bits(&bytes) {
-            return Err(Refusal::FieldOutOfRange);
-        }
-        if (block <= 31) | (block == 127) {
+        if all_seven_bits(&bytes) && matches!(block, 0..=31 | 127) {
             Ok(Identity { bytes, block })
         } else {
             Err(Refusal::FieldOutOfRange)

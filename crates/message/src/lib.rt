@@ -3,11 +3,13 @@
 
 pub mod address;
 pub mod bytes;
+mod head;
 pub mod identity;
 pub mod laws;
 pub mod listing;
 pub mod message;
 pub mod muid;
+pub mod pen;
 pub mod profile_id;
 pub mod reading;
 pub mod refusal;
@@ -22,10 +24,11 @@ pub use identity::Identity;
 pub use listing::{count_rows, write_profile_reply};
 pub use message::{Content, Message};
 pub use muid::Muid;
+pub use pen::Pen;
 pub use profile_id::ProfileId;
 pub use reading::{least_length, muid_number, read};
 pub use refusal::Refusal;
 pub use row::Row;
 pub use sent::Sent;
-pub use sub_id::{NakStatus, SubId};
+pub use sub_id::{NakStatus, SubId, UnknownSubId};
 pub use writing::write;

@@ -2,16 +2,17 @@
 ghost use Rattle.std.specs.Prelude.{◌≡◌, ℕ, ◌+◌, ◌*◌, ◌/◌, ◌%◌, ◌<◌, ◌≤◌, [], ◌∷◌, length};
 ghost use Rattle.std.specs.List.{flat_map};
 ghost use Rattle.message.specs.Messages.{encode};
-ghost use Rattle.message.specs.Rows.{stands, part};
+ghost use Rattle.message.specs.Rows.{stands, part, rows_of};
 ghost use Rattle.message.specs.Sending.{counted, ids_of, profile_list};
 ghost use Rattle.message.specs.Writing.{Put, Written};
 
 use crate::address::Address;
+use crate::head::Head;
 use crate::muid::Muid;
+use crate::pen::Pen;
 use crate::refusal::Refusal;
 use crate::row::Row;
 use crate::sub_id::SubId;
-use crate::writing::{has_room, put, put_header};
 
 /// The most rows of which a message of 512 bytes can tell.
 const MOST_ROWS: usize = 98;
@@ -26,44 +27,68 @@ impl Row {
     }
 }
 
+/// The rows at an address that are on, or off.
+#[derive(Clone, Copy)]
+struct Part<'a> {
+    rows: &'a [Row],
+    address: u8,
+    on: bool,
+}
+
+impl Part<'_> {
+    /// How many they are.
+    fn count(self) -> usize
+        ensures value { result ≡ length (rows_of self.entry) }
+        ensures ids { length (ids_of (rows_of self.entry)) ≡ 5 * result }
+        ensures bound { result ≤ length self.entry.rows.now }
+    {
+        let rows = self.rows;
+        let mut count = 0;
+        // A rule of the project: the rows at an address are counted by an index.
+        for k in 0..rows.len() {
+            if rows[k].stands_at(self.address, self.on) {
+                count += 1;
+            }
+        }
+        count
+    }
+
+    /// Puts their IDs in the listing's order.
+    fn put_ids(self, pen: &mut Pen<'_>)
+        requires { pen.old.at + length (ids_of (rows_of self)) ≤ length pen.old.out.now }
+        ensures bytes { Put pen.old.out.now pen.old.at (ids_of (rows_of self.entry)) pen.new.at pen.new.out.now }
+        ensures same_buffer { pen.new.out.ghost_name ≡ pen.old.out.ghost_name }
+    {
+        let rows = self.rows;
+        // A rule of the project: replies are written by loops over rows with an index.
+        for k in 0..rows.len() {
+            if rows[k].stands_at(self.address, self.on) {
+                pen.put(&rows[k].id);
+            }
+        }
+    }
+
+    /// Puts how many they are, and their IDs.
+    fn put(self, pen: &mut Pen<'_>)
+        requires room { pen.old.at + length (counted (rows_of self)) ≤ length pen.old.out.now }
+        requires few { length (rows_of self) ≤ 98 }
+        ensures bytes { Put pen.old.out.now pen.old.at (counted (rows_of self.entry)) pen.new.at pen.new.out.now }
+        ensures same_buffer { pen.new.out.ghost_name ≡ pen.old.out.ghost_name }
+    {
+        let count = self.count();
+        // `as` narrows what has seven bits: `try_from` would be no plainer, with an error that cannot be.
+        pen.put(&[(count % 0x80) as u8, (count / 0x80) as u8]);
+        self.put_ids(pen);
+    }
+}
+
 /// How many rows at an address are on, or off.
 pub fn count_rows(rows: &[Row], address: u8, on: bool) -> usize
     ensures value { result ≡ length (part address on rows.now) }
     ensures ids { length (ids_of (part address on rows.now)) ≡ 5 * result }
     ensures bound { result ≤ length rows.now }
 {
-    let mut count = 0;
-    for k in 0..rows.len() {
-        if rows[k].stands_at(address, on) {
-            count += 1;
-        }
-    }
-    count
-}
-
-/// Puts the IDs of the rows at an address that are on, or off, in the listing's order.
-fn put_ids(rows: &[Row], address: u8, on: bool, out: &mut [u8], at: usize) -> usize
-    requires { at + length (ids_of (part address on rows.now)) ≤ length out.old }
-    ensures { Put out.old at (ids_of (part address on rows.now)) result out.new }
-{
-    let mut end = at;
-    for k in 0..rows.len() {
-        if rows[k].stands_at(address, on) {
-            end = put(&rows[k].id, out, end);
-        }
-    }
-    end
-}
-
-/// Puts how many rows at an address are on, or off, and their IDs.
-fn put_counted(rows: &[Row], address: u8, on: bool, out: &mut [u8], at: usize) -> usize
-    requires room { at + length (counted (part address on rows.now)) ≤ length out.old }
-    requires few { length (part address on rows.now) ≤ 98 }
-    ensures { Put out.old at (counted (part address on rows.now)) result out.new }
-{
-    let count = count_rows(rows, address, on);
-    let at = put(&[(count % 0x80) as u8, (count / 0x80) as u8], out, at);
-    put_ids(rows, address, on, out, at)
+    Part { rows, address, on }.count()
 }
 
 /// Writes the reply to a listing inquiry at an address, as `write` writes a message.
@@ -77,17 +102,29 @@ pub fn write_profile_reply(
 ) -> Result<usize, Refusal>
     ensures { Written (encode (profile_list own.number to.number address.byte rows.now)) out.old at result out.new }
 {
-    let on = count_rows(rows, address.byte, true);
-    let off = count_rows(rows, address.byte, false);
-    if on > MOST_ROWS || off > MOST_ROWS - on {
+    let on = Part {
+        rows,
+        address: address.byte,
+        on: true,
+    };
+    let off = Part { on: false, ..on };
+    let (on_count, off_count) = (on.count(), off.count());
+    if on_count > MOST_ROWS || off_count > MOST_ROWS - on_count {
         return Err(Refusal::BufferTooSmall);
     }
-    if !has_room(19 + 5 * (on + off), out, at) {
+    let mut pen = Pen { out, at };
+    if !pen.has_room(19 + 5 * (on_count + off_count)) {
         return Err(Refusal::BufferTooSmall);
     }
-    let sub = SubId::ReplyToProfileInquiry;
-    let at = put_header(sub, address.byte, own, to, out, at);
-    let at = put_counted(rows, address.byte, true, out, at);
-    let at = put_counted(rows, address.byte, false, out, at);
-    Ok(put(&[0xF7], out, at))
+    let head = Head {
+        sub_id: SubId::ReplyToProfileInquiry,
+        address,
+        source: own,
+        destination: to,
+    };
+    head.put(&mut pen);
+    on.put(&mut pen);
+    off.put(&mut pen);
+    pen.put(&[0xF7]);
+    Ok(pen.at)
 }

@@ -1,5 +1,6 @@
 //! Device numbers.
 ghost use Rattle.std.specs.Prelude.{◌≡◌, ◌%◌, ◌<◌, ◌≤◌, true, false, MatchOption, nat_lt};
+ghost use Rattle.message.specs.Messages.{muid};
 
 use std::fmt;
 
@@ -18,6 +19,7 @@ pub struct Muid {
 
 impl Muid {
     /// The MUID of that number, unless it has more than 28 bits.
+    // No `TryFrom`: its error would only say the number again, and callers have their own refusals.
     pub fn new(number: u32) -> Option<Muid>
         ensures { MatchOption result (0x10000000 ≤ number) (λ m. m.number ≡ number) }
     {
@@ -35,6 +37,20 @@ impl Muid {
         Muid {
             number: draw % USABLE,
         }
+    }
+
+    /// The four bytes of seven bits that say it, lowest first.
+    pub(crate) fn bytes(self) -> [u8; 4]
+        ensures { result ≡ muid self.number }
+    {
+        let n = self.number;
+        // `as` narrows what has seven bits: `try_from` would be no plainer, with an error that cannot be.
+        [
+            (n % 0x80) as u8,
+            (n / 0x80 % 0x80) as u8,
+            (n / 0x4000 % 0x80) as u8,
+            (n / 0x20_0000) as u8,
+        ]
     }
 
     /// Every device.

@@ -14,6 +14,7 @@ pub struct ProfileId {
 
 impl ProfileId {
     /// The Profile ID of five bytes, unless one has eight bits.
+    // No `TryFrom`: its error would only say the bytes again, and callers have their own refusals.
     pub fn new(bytes: [u8; 5]) -> Option<ProfileId>
         ensures { MatchOption result (is_id bytes ≡ false) (λ i. i.bytes ≡ bytes) }
     {

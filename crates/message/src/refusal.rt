@@ -29,6 +29,7 @@ pub enum Refusal {
 
 impl Refusal {
     /// The number by which a refusal is told.
+    // No `From` for `u8`: `u8::from(refusal)` is no plainer than `refusal.number()`.
     pub fn number(self) -> u8
         ensures { result ≡ number self }
     {

@@ -37,7 +37,7 @@ pub enum Sent {
         address: Address,
         id: ProfileId,
     },
-    /// To the asker, with the Sub-ID of its inquiry.
+    /// To the asker, with the Sub-ID of its inquiry, a byte since it may be one that is not known here.
     Nak {
         to: Muid,
         address: Address,

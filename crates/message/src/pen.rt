@@ -1,0 +1,35 @@
+//! Writing part after part into what is left of a lent buffer.
+ghost use Rattle.std.specs.Prelude.{◌≡◌, ℕ, ◌+◌, ◌≤◌, length};
+ghost use Rattle.message.specs.Writing.{room_for, Put};
+
+/// The most bytes that a message has.
+pub(crate) const LONGEST: usize = 512;
+
+/// A lent buffer, and the place where the next bytes go.
+#[derive(Drop)]
+pub struct Pen<'a> {
+    pub out: &'a mut [u8],
+    pub at: usize,
+}
+
+impl Pen<'_> {
+    /// Whether a message of so many bytes goes into what is left.
+    pub(crate) fn has_room(&self, bytes: usize) -> bool
+        ensures { result ≡ room_for bytes self.now.out.now self.now.at }
+    {
+        let long = self.out.len();
+        bytes <= LONGEST && bytes <= long && self.at <= long - bytes
+    }
+
+    /// Copies bytes to the place, which moves to where they end.
+    pub(crate) fn put(&mut self, bytes: &[u8])
+        requires { self.old.at + length bytes.now ≤ length self.old.out.now }
+        ensures bytes { Put self.old.out.now self.old.at bytes.now self.new.at self.new.out.now }
+        ensures same_buffer { self.new.out.ghost_name ≡ self.old.out.ghost_name }
+    {
+        let out = &mut *self.out;
+        let end = self.at + bytes.len();
+        out[self.at..end].copy_from_slice(bytes);
+        self.at = end;
+    }
+}
