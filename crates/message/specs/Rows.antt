@@ -2,9 +2,22 @@
 use Rattle.std.specs.Prelude.{ℕ, Bool, true, false, cond, not, ◌&&◌, List, [], ◌∷◌, ◌==◌}
 use Rattle.rising.specs.Order.{Key}
 use Rattle.message.specs.Bytes.{is_address, is_id}
+use Rattle.message.specs.declared.pair.Pair.{Pair}
 use Rattle.message.specs.declared.row.Row.{Row}
 
--- rows stand in the order of their addresses, and at one address of their ID bytes
+-- what names a row
+abbrev pub pair_of : Row → Pair
+pair_of r = record { address = r.address; id = r.id }
+
+-- the row that a pair names, on or off
+abbrev pub named : Pair → Bool → Row
+named p on = record { address = p.address; id = p.id; on = on }
+
+-- pairs stand in the order of their addresses, and at one address of their ID bytes
+abbrev pub pair_key : Pair → Key
+pair_key p = p.address ∷ p.id
+
+-- rows stand in the order of their pairs
 abbrev pub row_key : Row → Key
 row_key r = r.address ∷ r.id
 
@@ -28,6 +41,10 @@ part a on l = keep (stands a on) l
 -- a row in range
 abbrev pub ranged : ℕ → List ℕ → Bool
 ranged a i = is_address a && is_id i
+
+-- a pair in range
+abbrev pub pair_ranged : Pair → Bool
+pair_ranged p = ranged p.address p.id
 
 abbrev pub all_ranged : List Row → Bool
 all_ranged [] = true
