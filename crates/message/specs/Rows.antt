@@ -1,5 +1,6 @@
 -- Rows of a listing, and those of them at one address.
 use Rattle.std.specs.Prelude.{ℕ, Bool, true, false, cond, not, ◌&&◌, List, [], ◌∷◌, ◌==◌}
+use Rattle.std.specs.List.{list_all}
 use Rattle.rising.specs.Order.{Key}
 use Rattle.message.specs.Bytes.{is_address, is_id}
 use Rattle.message.specs.declared.pair.Pair.{Pair}
@@ -46,6 +47,6 @@ ranged a i = is_address a && is_id i
 abbrev pub pair_ranged : Pair → Bool
 pair_ranged p = ranged p.address p.id
 
+-- rows in range
 abbrev pub all_ranged : List Row → Bool
-all_ranged [] = true
-all_ranged (r ∷ l) = ranged r.address r.id && all_ranged l
+all_ranged l = list_all (λ r. ranged r.address r.id) l
