@@ -95,12 +95,10 @@ impl Host for Table {
     }
 
     fn pull(&mut self, pair: Pair) -> bool {
-        match find_row(self.rows(), pair) {
-            Some(k) if !self.rows.slots[k].on => {
-                self.rows.remove(pair);
-                true
-            }
-            _ => false,
+        let leaves = find_row(self.rows(), pair).is_some_and(|k| !self.rows.slots[k].on);
+        if leaves {
+            self.rows.remove(pair);
         }
+        leaves
     }
 }
