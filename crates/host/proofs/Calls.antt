@@ -1,5 +1,6 @@
 -- What a call means that changes nothing, and what the calls of a table mean.
-use Rattle.std.proofs.Common.{◌≡◌, ℕ, Bool, true, false, ◌&&◌, List, map, Some, None, Option, sym, refl, ap, ◌∙◌}
+use mathlib.Core.Bool.{beq}
+use Rattle.std.proofs.Common.{◌≡◌, ℕ, Bool, true, false, not, ◌&&◌, List, map, Some, None, Option, sym, refl, ap, ◌∙◌}
 use Rattle.std.proofs.lemmas.Bool.{both_ways}
 use Rattle.rising.specs.Lists.{entered}
 use Rattle.message.specs.Rows.{row_key}
@@ -35,6 +36,18 @@ listed-differs (Some s) on = refl
 pub goes-freely : (l : List Row) (a : ℕ) (i : List ℕ) (on : Bool) → goes l (freely l) a i on ≡ differs (look l a i) on
 goes-freely l a i true = listed-differs (look l a i) true
 goes-freely l a i false = listed-differs (look l a i) false
+
+-- whether a row's state is another than that asked for
+pub other_state : (s on b : Bool) → not (beq s on) ≡ b → b ≡ differs (Some s) on
+other_state true true b e = sym e
+other_state true false b e = sym e
+other_state false true b e = sym e
+other_state false false b e = sym e
+
+-- whether a row is off
+pub off_state : (s b : Bool) → not s ≡ b → b ≡ differs (Some s) true
+off_state true b e = sym e
+off_state false b e = sym e
 
 module _ (l : List Row) (a : ℕ) (i : List ℕ) (on answer : Bool) (told : answer ≡ differs (look l a i) on) where
   pub table_stays : answer ≡ false → Switched l (freely l) false a i on l (freely l) false answer

@@ -1,21 +1,20 @@
--- The search of a row, by the words of the rising list and of the rows.
-use Rattle.std.proofs.Common.{◌≡◌, ℕ, false, List, get_or, is_some, Some, None, Option, sym, ap, ◌∙◌, MatchOption}
-use Rattle.rising.specs.Lists.{Rising, Absent, Stands, holds, found}
+-- What the search of a row tells, by where the row stands.
+use Rattle.std.proofs.Common.{◌≡◌, ℕ, List, is_some, Some, None, Option, sym, ap, subst}
+use Rattle.rising.specs.Lists.{Rising}
 use Rattle.message.specs.Rows.{row_key}
 use Rattle.message.specs.declared.row.Row.{Row}
-use Rattle.host.specs.Rows.{row, has, look}
-use Rattle.host.specs.Finding.{state_at, Within}
-use Rattle.host.proofs.Keys.{state_of, look-found, has-holds}
+use Rattle.host.specs.Rows.{has, is_there, look}
+use Rattle.host.specs.Finding.{state_at}
+use Rattle.host.specs.Tables.{Placed, blank}
 
-pub found_within : (r : Option ℕ) (l : List Row) (x : Row) → MatchOption r (Rising row_key l → Absent row_key x l) (Stands row_key x l) → Within r l
-found_within None l x h = tt
-found_within (Some k) l x h = h.0
+pub placed-listed : (l : List Row) (a : ℕ) (i : List ℕ) (o : Option ℕ) → Placed l a i o → is_some o ≡ has l a i
+placed-listed l a i None h = sym (ap is_there h)
+placed-listed l a i (Some k) h = sym (ap is_there (h.1 blank).1)
 
-pub found-listed : (r : Option ℕ) (l : List Row) (a : ℕ) (i : List ℕ) → is_some r ≡ holds row_key (row a i false) l → is_some r ≡ has l a i
-found-listed r l a i h = h ∙ sym (has-holds l a i false)
+pub placed_state : (l : List Row) (a : ℕ) (i : List ℕ) (o : Option ℕ) → Placed l a i o → (d : Row) → state_at o l d ≡ look l a i
+placed_state l a i None h d = sym h
+placed_state l a i (Some k) h d = sym (h.1 d).1
 
-pub found_state : (r : Option ℕ) (l : List Row) (a : ℕ) (i : List ℕ) (d : Row) → Rising row_key l
-    → MatchOption r (Rising row_key l → found row_key (row a i false) l ≡ None) (λ k. Rising row_key l → (d : Row) → found row_key (row a i false) l ≡ Some (get_or l k d))
-    → state_at r l d ≡ look l a i
-found_state None l a i d up h = sym (look-found l a i false ∙ ap state_of (h up))
-found_state (Some k) l a i d up h = sym (look-found l a i false ∙ ap state_of (h up d))
+-- what the search tells of the rows that a host lends
+pub placed_among : (l m : List Row) (a : ℕ) (i : List ℕ) (o : Option ℕ) → m ≡ l → Rising row_key l → (Rising row_key m → Placed m a i o) → Placed l a i o
+placed_among l m a i o e up h = subst (λ (x : List Row). Rising row_key x → Placed x a i o) e h up

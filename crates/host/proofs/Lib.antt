@@ -4,3 +4,4 @@ pub mod Any
 pub mod Calls
 pub mod Makings
 pub mod FindingRows
+pub mod Tallies

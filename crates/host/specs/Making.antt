@@ -1,15 +1,16 @@
 -- From which rows a host is made, and what is said of others.
 use Rattle.std.specs.Prelude.{◌≡◌, Bool, cond, not, ◌||◌, List, length, Some, None, Option, nat_lt}
+use Rattle.std.specs.List.{list_any}
 use Rattle.rising.specs.Lists.{rising}
 use Rattle.message.specs.Rows.{row_key, all_ranged}
 use Rattle.message.specs.declared.row.Row.{Row}
 use Rattle.message.specs.declared.refusal.Refusal.{Refusal}
 use Rattle.message.specs.declared.refusal.Refusal.TheVariants.{FieldOutOfRange, NotRising}
-use Rattle.host.specs.Rows.{any, tally, Sound}
+use Rattle.host.specs.Rows.{tally, Sound}
 
 -- more than 21 rows stand at the address of one of them
 abbrev pub crowded : List Row → Bool
-crowded l = any (λ r. nat_lt 21 (tally r.address l)) l
+crowded l = list_any (λ r. nat_lt 21 (tally r.address l)) l
 
 -- more than 64 rows, or not strictly rising, or more than 21 at one address
 abbrev pub disordered : List Row → Bool

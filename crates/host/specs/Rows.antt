@@ -34,11 +34,6 @@ has l a i = is_there (look l a i)
 abbrev pub without_row : ℕ → List ℕ → List Row → List Row
 without_row a i l = keep (λ r. not (same a i r)) l
 
--- whether some row passes a test
-abbrev pub any : (Row → Bool) → List Row → Bool
-any p [] = false
-any p (r ∷ l) = p r || any p l
-
 -- how many rows stand at an address
 abbrev pub tally : ℕ → List Row → ℕ
 tally a [] = 0

@@ -5,22 +5,17 @@ ghost use Rattle.message.specs.Rows.{row_key};
 ghost use Rattle.message.specs.declared.row.Row.{Row};
 ghost use Rattle.host.specs.Rows.{has, look};
 ghost use Rattle.host.specs.Finding.{state_at, Within};
+ghost use Rattle.host.specs.Tables.{Placed};
 
-use message::Row;
+use message::{Pair, Row};
 use rising::find;
 
-/// The place of the row with that address and ID among rows that rise, as those of a listing do.
-pub fn find_row(rows: &[Row], address: u8, id: [u8; 5]) -> Option<usize>
+/// The place of the row that a pair names among rows that rise, as those of a listing do.
+pub fn find_row(rows: &[Row], pair: Pair) -> Option<usize>
     ensures within { Within result rows.now }
-    ensures listed { Rising row_key rows.now → is_some result ≡ has rows.now address id }
-    ensures state { Rising row_key rows.now → (d : Row) → state_at result rows.now d ≡ look rows.now address id }
+    ensures listed { Rising row_key rows.now → is_some result ≡ has rows.now pair.address pair.id }
+    ensures state { Rising row_key rows.now → (d : Row) → state_at result rows.now d ≡ look rows.now pair.address pair.id }
+    ensures place { Rising row_key rows.now → Placed rows.now pair.address pair.id result }
 {
-    find(
-        rows,
-        &Row {
-            address,
-            id,
-            on: false,
-        },
-    )
+    find(rows, &Row::new(pair, false))
 }

@@ -1,6 +1,8 @@
 //! Hosts: the instrument's side, which knows its profiles and consents to changes.
 #![tactic(auto)]
 
+ghost use Rattle.std.specs.Prelude.{◌≡◌};
+
 pub mod finding;
 pub mod fixed;
 pub mod host;
@@ -10,59 +12,62 @@ pub mod table;
 pub use finding::find_row;
 pub use fixed::Fixed;
 pub use host::Host;
+pub use rows::count_at;
 pub use table::Table;
 
 #[cfg(test)]
 mod tests {
     use super::*;
-    use message::{Refusal, Row};
+    use message::{Pair, Refusal, Row};
 
     const PIANO: [u8; 5] = [0x7E, 1, 0, 0, 1];
 
     const ORGAN: [u8; 5] = [0x7E, 2, 0, 0, 1];
 
+    fn at(address: u8, id: [u8; 5]) -> Pair
+        ensures { (result.address ≡ address) × (result.id ≡ id) }
+    {
+        Pair { address, id }
+    }
+
     fn row(address: u8, number: u8, on: bool) -> Row {
-        Row {
-            address,
-            id: [number, 0, 0, 0, 0],
-            on,
-        }
+        Row::new(at(address, [number, 0, 0, 0, 0]), on)
     }
 
     #[test]
     fn switches(rt: HostRuntime) {
         let mut host = Table::empty();
-        assert!(rt; !host.switch(0, PIANO, true), "unlisted");
-        assert!(rt; host.plug(0, PIANO));
+        assert!(rt; !host.switch(at(0, PIANO), true), "unlisted");
+        assert!(rt; host.plug(at(0, PIANO)));
         assert!(rt;
-            host.may_go_on(0, PIANO) && host.may_go_off(0, PIANO),
+            host.may_go_on(at(0, PIANO)) && host.may_go_off(at(0, PIANO)),
             "listed"
         );
         assert!(rt;
-            !host.may_go_on(1, PIANO) && !host.may_go_off(0, ORGAN),
+            !host.may_go_on(at(1, PIANO)) && !host.may_go_off(at(0, ORGAN)),
             "not listed"
         );
-        assert!(rt; !host.switch(0, PIANO, false), "off already");
-        assert!(rt; host.switch(0, PIANO, true));
-        assert!(rt; !host.switch(0, PIANO, true), "on already");
+        assert!(rt; !host.switch(at(0, PIANO), false), "off already");
+        assert!(rt; host.switch(at(0, PIANO), true));
+        assert!(rt; !host.switch(at(0, PIANO), true), "on already");
         assert!(rt; host.rows()[0].on);
-        assert!(rt; host.switch(0, PIANO, false));
+        assert!(rt; host.switch(at(0, PIANO), false));
     }
 
     #[test]
     fn plugs_and_pulls(rt: HostRuntime) {
         let mut host = Table::empty();
-        assert!(rt; host.plug(1, ORGAN) && host.plug(1, PIANO) && host.plug(0, ORGAN));
-        assert!(rt; !host.plug(1, PIANO), "present");
-        assert!(rt; !host.plug(0x10, PIANO), "no address");
-        assert!(rt; !host.plug(0, [0x80, 0, 0, 0, 0]), "no Profile ID");
+        assert!(rt; host.plug(at(1, ORGAN)) && host.plug(at(1, PIANO)) && host.plug(at(0, ORGAN)));
+        assert!(rt; !host.plug(at(1, PIANO)), "present");
+        assert!(rt; !host.plug(at(0x10, PIANO)), "no address");
+        assert!(rt; !host.plug(at(0, [0x80, 0, 0, 0, 0])), "no Profile ID");
         assert_eq!(rt; host.rows()[0].address, 0);
         assert_eq!(rt; host.rows()[1].id, PIANO);
         assert!(rt; !host.rows()[1].on, "enters as off");
-        assert!(rt; host.switch(1, PIANO, true));
-        assert!(rt; !host.pull(1, PIANO), "on");
-        assert!(rt; host.pull(1, ORGAN));
-        assert!(rt; !host.pull(1, ORGAN), "gone");
+        assert!(rt; host.switch(at(1, PIANO), true));
+        assert!(rt; !host.pull(at(1, PIANO)), "on");
+        assert!(rt; host.pull(at(1, ORGAN)));
+        assert!(rt; !host.pull(at(1, ORGAN)), "gone");
         assert_eq!(rt; host.rows().len(), 2);
     }
 
@@ -70,21 +75,21 @@ mod tests {
     fn limits_of_plugs(rt: HostRuntime) {
         let mut host = Table::empty();
         for number in 0..21u8 {
-            assert!(rt; host.plug(0x7F, [number, 0, 0, 0, 0]));
+            assert!(rt; host.plug(at(0x7F, [number, 0, 0, 0, 0])));
         }
-        assert!(rt; !host.plug(0x7F, PIANO), "22 at one address");
+        assert!(rt; !host.plug(at(0x7F, PIANO)), "22 at one address");
         for number in 0..43u8 {
-            assert!(rt; host.plug(number / 16, [number, 0, 0, 0, 0]));
+            assert!(rt; host.plug(at(number / 16, [number, 0, 0, 0, 0])));
         }
         assert_eq!(rt; host.rows().len(), 64);
-        assert!(rt; !host.plug(5, PIANO), "65 in all");
+        assert!(rt; !host.plug(at(5, PIANO)), "65 in all");
     }
 
     // As many rows at each address as may stand there, and one more than a listing has.
     fn many() -> [Row; 65] {
         let mut rows = [row(0, 0, false); 65];
-        for k in 0..65 {
-            rows[k] = row((k / 21) as u8, (k % 21) as u8, k % 2 == 0);
+        for (k, slot) in rows.iter_mut().enumerate() {
+            *slot = row((k / 21) as u8, (k % 21) as u8, k % 2 == 0);
         }
         rows
     }
@@ -140,11 +145,11 @@ mod tests {
         let rows = [row(0, 1, false), row(0, 2, true)];
         match Fixed::from_rows(&rows) {
             Ok(mut host) => {
-                assert!(rt; host.is_fixed() && !host.may_go_on(0, rows[0].id));
+                assert!(rt; host.is_fixed() && !host.may_go_on(rows[0].pair()));
                 assert!(rt;
-                    !host.switch(0, rows[0].id, true) && !host.switch(0, rows[1].id, false)
+                    !host.switch(rows[0].pair(), true) && !host.switch(rows[1].pair(), false)
                 );
-                assert!(rt; !host.plug(0, PIANO) && !host.pull(0, rows[0].id));
+                assert!(rt; !host.plug(at(0, PIANO)) && !host.pull(rows[0].pair()));
                 assert_eq!(rt; host.rows().len(), 2);
                 assert!(rt; !host.rows()[0].on && host.rows()[1].on);
             }

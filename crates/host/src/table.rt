@@ -3,14 +3,14 @@ ghost use Rattle.std.specs.Prelude.{◌≡◌, ℕ, ◌≤◌, true, false, [], 
 ghost use Rattle.rising.specs.Lists.{Rising};
 ghost use Rattle.message.specs.Rows.{row_key, all_ranged};
 ghost use Rattle.host.specs.Rows.{tally};
-ghost use Rattle.host.specs.Hosts.{differs};
 ghost use Rattle.host.specs.Making.{fault, Exact};
 ghost use Rattle.host.specs.Tables.{listed, freely};
 ghost use Rattle.host.specs.Lawfulness.{sound-listed, freely_lawful};
 
+use crate::finding::find_row;
 use crate::host::Host;
-use crate::rows::Rows;
-use message::{Refusal, Row};
+use crate::rows::{Rows, fits_in};
+use message::{Pair, Refusal, Row};
 
 /// Holds its rows itself, consents to every switch of a listed row, and lets rows be plugged and pulled.
 #[derive(Drop)]
@@ -41,20 +41,6 @@ impl Table {
     }
 }
 
-/// Whether a row's state is another than that asked for.
-fn is_other(state: bool, on: bool) -> bool
-    ensures { result ≡ differs (Some state) on }
-{
-    state != on
-}
-
-/// Whether a row may be pulled.
-fn is_off(state: bool) -> bool
-    ensures { result ≡ differs (Some state) true }
-{
-    !state
-}
-
 impl Host for Table {
     ghost listing = { λ h. listed h.rows };
 
@@ -71,18 +57,18 @@ impl Host for Table {
     ghost keeps_on = { λ _ _ _ _ _. tt };
 
     fn rows(&self) -> &[Row] {
-        self.rows.listed()
+        &self.rows.slots[0..self.rows.count]
     }
 
-    fn may_go_on(&self, address: u8, id: [u8; 5]) -> bool {
-        self.rows.place(address, id).is_some()
+    fn may_go_on(&self, pair: Pair) -> bool {
+        find_row(self.rows(), pair).is_some()
     }
 
-    fn may_go_off(&self, address: u8, id: [u8; 5]) -> bool {
-        self.rows.place(address, id).is_some()
+    fn may_go_off(&self, pair: Pair) -> bool {
+        find_row(self.rows(), pair).is_some()
     }
 
-    fn puts_off(&self, _address: u8, _id: [u8; 5], _other: [u8; 5]) -> bool {
+    fn puts_off(&self, _pair: Pair, _other: [u8; 5]) -> bool {
         false
     }
 
@@ -90,37 +76,29 @@ impl Host for Table {
         false
     }
 
-    fn switch(&mut self, address: u8, id: [u8; 5], on: bool) -> bool {
-        match self.rows.place(address, id) {
-            Some(k) => {
-                let moves = is_other(self.rows.slots[k].on, on);
-                if moves {
-                    self.rows.turn(k, on);
-                }
-                moves
+    fn switch(&mut self, pair: Pair, on: bool) -> bool {
+        match find_row(self.rows(), pair) {
+            Some(k) if self.rows.slots[k].on != on => {
+                self.rows.turn(k, on);
+                true
             }
-            None => false,
+            _ => false,
         }
     }
 
-    fn plug(&mut self, address: u8, id: [u8; 5]) -> bool {
-        let fits = self.rows.takes(address, id);
+    fn plug(&mut self, pair: Pair) -> bool {
+        let fits = fits_in(self.rows(), pair);
         if fits {
-            self.rows.enter(address, id);
+            self.rows.enter(pair);
         }
         fits
     }
 
-    fn pull(&mut self, address: u8, id: [u8; 5]) -> bool {
-        match self.rows.place(address, id) {
-            Some(k) => {
-                let leaves = is_off(self.rows.slots[k].on);
-                if leaves {
-                    self.rows.remove(address, id);
-                }
-                leaves
-            }
-            None => false,
+    fn pull(&mut self, pair: Pair) -> bool {
+        let leaves = find_row(self.rows(), pair).is_some_and(|k| !self.rows.slots[k].on);
+        if leaves {
+            self.rows.remove(pair);
         }
+        leaves
     }
 }

@@ -1,7 +1,7 @@
 -- Rows of one set that are on at one address, over a switch, a plug and a pull through the sets layer.
 use Rattle.std.proofs.Common.{◌≡◌, ℕ, ◌+◌, ◌<◌, ◌≤◌, Bool, true, false, cond, not, ◌&&◌, eqb, ltb, List, [], ◌∷◌, map, Some, None, Option, sym, refl, subst, arith}
 use Rattle.std.specs.Str.{bytes_eq}
-use Rattle.std.specs.List.{AllByRecursion}
+use Rattle.std.specs.List.{AllByRecursion, list_any}
 use Rattle.std.proofs.lemmas.Bool.{and_parts, and_from, or_left, or_right, eqb-true, lt-ltb, true≢false, both_ways, cond_both}
 use Rattle.std.proofs.lemmas.Slice.Eq.{bytes_eq-Decides}
 use Rattle.rising.specs.Order.{before}
@@ -9,7 +9,7 @@ use Rattle.rising.specs.Lists.{leads, rising, Rising, entered}
 use Rattle.rising.proofs.Order.{before_irrefl}
 use Rattle.message.specs.Rows.{row_key, keep}
 use Rattle.message.specs.declared.row.Row.{Row}
-use Rattle.host.specs.Rows.{row, same, look, without_row, any}
+use Rattle.host.specs.Rows.{row, same, look, without_row}
 use Rattle.host.specs.Hosts.{Consents, differs, goes, turned}
 use Rattle.layers.specs.declared.member.Member.{Member}
 use Rattle.layers.specs.Sets.{set_of, rival, set_on, setted, count_on, AtMostOne}
@@ -149,7 +149,7 @@ module _ (ms : List Member) (a : ℕ) (i : List ℕ) (names : List ℕ → Bool)
 
 module _ (ms : List Member) (a : ℕ) (i : List ℕ) where
   abbrev Named : List Row → Row → Type 0
-  Named l r = rival ms a i r ≡ true → any (λ x. rival ms a i x && bytes_eq r.id x.id) l ≡ true
+  Named l r = rival ms a i r ≡ true → list_any (λ x. rival ms a i x && bytes_eq r.id x.id) l ≡ true
 
   named_more : (y : Row) (l xs : List Row) → AllByRecursion (Named l) xs → AllByRecursion (Named (y ∷ l)) xs
   named_more y l [] h = tt

@@ -1,5 +1,6 @@
 -- Rivals are put off one by one below, and then the on below is the on of the sets layer.
 use Rattle.std.proofs.Common.{◌≡◌, ℕ, suc, ◌+◌, ◌<◌, Bool, true, false, cond, not, ◌&&◌, ◌||◌, eqb, List, [], ◌∷◌, map, length, get_or, Some, Option, sym, refl, ap, ◌∙◌, subst, ⊎_elim, arith, below_more}
+use Rattle.std.specs.List.{list_any}
 use Rattle.std.specs.Str.{bytes_eq}
 use Rattle.std.proofs.lemmas.List.{length-map, get_or-map, get_or_default}
 use Rattle.std.proofs.lemmas.Bool.{or_left, or_right, or_cases, or_parts, and_parts, and_from, and_left, and_right, not-true, not-false, not_from_false, eqb-true, both_ways, cases_Bool}
@@ -7,7 +8,7 @@ use Rattle.std.proofs.lemmas.Slice.Eq.{bytes_eq-Decides}
 use Rattle.rising.specs.Lists.{Rising}
 use Rattle.message.specs.Rows.{row_key}
 use Rattle.message.specs.declared.row.Row.{Row}
-use Rattle.host.specs.Rows.{row, same, look, any}
+use Rattle.host.specs.Rows.{row, same, look}
 use Rattle.host.specs.Hosts.{Consents, differs, goes, turned, Kept, Switched, Plugged, Pulled}
 use Rattle.layers.specs.declared.member.Member.{Member}
 use Rattle.layers.specs.Sets.{rival, set_on, setted}
@@ -37,10 +38,10 @@ rival_from ms a i r q = and_from _ _ q.here (and_from _ _ q.on (and_from _ _ q.j
 
 -- the ID is that of a rival
 abbrev rivals : List Member → List Row → ℕ → List ℕ → List ℕ → Bool
-rivals ms l a i j = any (λ r. rival ms a i r && bytes_eq j r.id) l
+rivals ms l a i j = list_any (λ r. rival ms a i r && bytes_eq j r.id) l
 
 on-parts : (ms : List Member) (l : List Row) (c : Consents) (a : ℕ) (i : List ℕ) → set_on ms l c a i ≡ true
-    → (c.on a i ≡ true) × (any (λ r. rival ms a i r && not (c.off a r.id)) l ≡ false)
+    → (c.on a i ≡ true) × (list_any (λ r. rival ms a i r && not (c.off a r.id)) l ≡ false)
 on-parts ms l c a i h = let q = and_parts _ _ h in (q.0, not-true _ q.1)
 
 free-row : (b o : Bool) → (b && not o) ≡ false → b ≡ true → o ≡ true

@@ -1,8 +1,9 @@
 -- How far the sets layer has come below while it puts rivals off, one by one, before a row goes on.
 use Rattle.std.specs.Prelude.{◌≡◌, ℕ, ◌<◌, Bool, true, false, cond, ◌&&◌, List, map, ◌==◌, slice_index_or}
+use Rattle.std.specs.List.{list_any}
 use Rattle.std.specs.Str.{bytes_eq}
 use Rattle.message.specs.declared.row.Row.{Row}
-use Rattle.host.specs.Rows.{row, any}
+use Rattle.host.specs.Rows.{row}
 use Rattle.host.specs.Hosts.{Consents}
 use Rattle.layers.specs.declared.member.Member.{Member}
 use Rattle.layers.specs.Sets.{rival}
@@ -17,7 +18,7 @@ pub record Cleared (ms : List Member) (l : List Row) (c : Consents) (f : Bool) (
   -- the IDs put off so far
   pub ids : List ℕ → Bool
   pub rows : l' ≡ map (cleared a ids) l
-  pub picks : (j : List ℕ) → ids j ≡ true → any (λ r. rival ms a i r && bytes_eq j r.id) l ≡ true
+  pub picks : (j : List ℕ) → ids j ≡ true → list_any (λ r. rival ms a i r && bytes_eq j r.id) l ≡ true
   pub front : (m : ℕ) (d : Row) → m < k → rival ms a i (slice_index_or l m d) ≡ true → ids (slice_index_or l m d).id ≡ true
   pub on : c'.on a i ≡ true
   pub off : (j : List ℕ) → ids j ≡ false → c.off a j ≡ true → c'.off a j ≡ true

@@ -1,11 +1,12 @@
 -- That a layer over a lawful host is lawful.
 use Rattle.std.specs.Prelude.{◌≡◌, ℕ, Bool, true, false, cond, ◌&&◌, List, [], ◌∷◌, Some, nat_eq, refl}
+use Rattle.std.specs.List.{list_any}
 use Rattle.std.proofs.Common.{sym, ap, subst, ⊎_elim}
 use Rattle.std.specs.Str.{bytes_eq}
 use Rattle.std.proofs.lemmas.Bool.{both_ways, and_parts, and_from, or_cases, not-true, cond-true, cases_Bool}
 use Rattle.std.proofs.lemmas.Slice.Eq.{bytes_eq-Decides}
 use Rattle.message.specs.declared.row.Row.{Row}
-use Rattle.host.specs.Rows.{same, look, is_there, has, any}
+use Rattle.host.specs.Rows.{same, look, is_there, has}
 use Rattle.host.specs.Hosts.{Consents, Lawful}
 use Rattle.layers.specs.declared.pair.Pair.{Pair}
 use Rattle.layers.specs.declared.member.Member.{Member}
@@ -55,7 +56,7 @@ bytes_turn i j h =
     (cases_Bool (bytes_eq j i))
 
 -- the ID of a rival is that of another listed row
-rival-listed : (ms : List Member) (a : ℕ) (i j : List ℕ) (l : List Row) → any (λ r. rival ms a i r && bytes_eq j r.id) l ≡ true
+rival-listed : (ms : List Member) (a : ℕ) (i j : List ℕ) (l : List Row) → list_any (λ r. rival ms a i r && bytes_eq j r.id) l ≡ true
     → (has l a j ≡ true) × (bytes_eq j i ≡ false)
 rival-listed ms a i j [] h = absurd (both_ways false refl h)
 rival-listed ms a i j (r ∷ l) h =

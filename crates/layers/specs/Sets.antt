@@ -1,8 +1,8 @@
 -- The layer that keeps at most one row of a set on at an address.
 use Rattle.std.specs.Prelude.{ℕ, ◌+◌, ◌<◌, ◌≤◌, Bool, cond, not, ◌&&◌, ◌||◌, List, [], ◌∷◌, ◌==◌, nat_lt}
+use Rattle.std.specs.List.{list_any}
 use Rattle.std.specs.Str.{bytes_eq}
 use Rattle.message.specs.declared.row.Row.{Row}
-use Rattle.host.specs.Rows.{any}
 use Rattle.host.specs.Hosts.{Consents}
 use Rattle.layers.specs.declared.member.Member.{Member}
 
@@ -21,7 +21,7 @@ rival ms a i r = a == r.address && (r.on && (together ms i r.id && not (bytes_eq
 
 -- the layer consents to an on exactly if the host below does, and also to the off of each rival
 abbrev pub set_on : List Member → List Row → Consents → ℕ → List ℕ → Bool
-set_on ms l c a i = c.on a i && not (any (λ r. rival ms a i r && not (c.off a r.id)) l)
+set_on ms l c a i = c.on a i && not (list_any (λ r. rival ms a i r && not (c.off a r.id)) l)
 
 -- The consents of the layer over a host with the rows l and the consents c: its on names the rivals and what is named below; an off is as
 -- below.
@@ -30,7 +30,7 @@ setted ms l c =
     record {
       on = set_on ms l c;
       off = c.off;
-      names = λ a i j. set_on ms l c a i && (c.names a i j || any (λ r. rival ms a i r && bytes_eq j r.id) l);
+      names = λ a i j. set_on ms l c a i && (c.names a i j || list_any (λ r. rival ms a i r && bytes_eq j r.id) l);
     }
 
 -- how many rows of a set are on at an address

@@ -1,8 +1,9 @@
 //! A layer that keeps at most one row of a set on at an address.
 ghost use Rattle.std.specs.Prelude.{◌≡◌, true, not, ◌&&◌, length, refl};
+ghost use Rattle.std.specs.List.{list_any};
 ghost use Rattle.std.proofs.Common.{◌∙◌};
 ghost use Rattle.std.specs.Str.{bytes_eq};
-ghost use Rattle.host.specs.Rows.{look, any};
+ghost use Rattle.host.specs.Rows.{look};
 ghost use Rattle.host.specs.Hosts.{differs, Switched, Plugged, Pulled};
 ghost use Rattle.layers.specs.Sets.{rival, set_on, setted, AtMostOne};
 ghost use Rattle.layers.specs.Clearing.{Cleared};
@@ -67,7 +68,7 @@ fn blocks<B: Host>(row: Row, below: &B, members: &Members, address: u8, id: [u8;
 
 // Whether the host below keeps a rival of the row on.
 fn is_blocked<B: Host>(below: &B, members: &Members, address: u8, id: [u8; 5]) -> bool
-    ensures { result ≡ any (λ x. rival (members_of members.now) address id x && not ((B.Host.consents below.now).off address x.id)) (B.Host.listing below.now) }
+    ensures { result ≡ list_any (λ x. rival (members_of members.now) address id x && not ((B.Host.consents below.now).off address x.id)) (B.Host.listing below.now) }
 {
     let rows = below.rows();
     for k in 0..rows.len() {
@@ -100,7 +101,7 @@ fn names_rival<B: Host>(
     id: [u8; 5],
     other: [u8; 5],
 ) -> bool
-    ensures { result ≡ any (λ x. rival (members_of members.now) address id x && bytes_eq other x.id) (B.Host.listing below.now) }
+    ensures { result ≡ list_any (λ x. rival (members_of members.now) address id x && bytes_eq other x.id) (B.Host.listing below.now) }
 {
     let rows = below.rows();
     for k in 0..rows.len() {

@@ -1,11 +1,25 @@
 -- Rows of a listing, and those of them at one address.
 use Rattle.std.specs.Prelude.{ℕ, Bool, true, false, cond, not, ◌&&◌, List, [], ◌∷◌, ◌==◌}
+use Rattle.std.specs.List.{list_all}
 use Rattle.rising.specs.Order.{Key}
 use Rattle.message.specs.Bytes.{is_address, is_id}
+use Rattle.message.specs.declared.pair.Pair.{Pair}
 use Rattle.message.specs.declared.row.Row.{Row}
 use Rattle.message.specs.declared.listing.Part.{Part}
 
--- rows stand in the order of their addresses, and at one address of their ID bytes
+-- what names a row
+abbrev pub pair_of : Row → Pair
+pair_of r = record { address = r.address; id = r.id }
+
+-- the row that a pair names, on or off
+abbrev pub named : Pair → Bool → Row
+named p on = record { address = p.address; id = p.id; on = on }
+
+-- pairs stand in the order of their addresses, and at one address of their ID bytes
+abbrev pub pair_key : Pair → Key
+pair_key p = p.address ∷ p.id
+
+-- rows stand in the order of their pairs
 abbrev pub row_key : Row → Key
 row_key r = r.address ∷ r.id
 
@@ -33,6 +47,10 @@ rows_of p = part p.address p.on p.rows.now
 abbrev pub ranged : ℕ → List ℕ → Bool
 ranged a i = is_address a && is_id i
 
+-- a pair in range
+abbrev pub pair_ranged : Pair → Bool
+pair_ranged p = ranged p.address p.id
+
+-- rows in range
 abbrev pub all_ranged : List Row → Bool
-all_ranged [] = true
-all_ranged (r ∷ l) = ranged r.address r.id && all_ranged l
+all_ranged l = list_all (λ r. ranged r.address r.id) l

@@ -1,25 +1,42 @@
 //! Rows of a listing.
-ghost use Rattle.message.specs.Rows.{row_key};
+ghost use Rattle.std.specs.Prelude.{◌≡◌};
+ghost use Rattle.message.specs.Rows.{named, pair_of, row_key};
 
+use crate::pair::Pair;
 use rising::Keyed;
 use std::cmp::Ordering;
 
 /// A profile at an address, on or off, as a maker writes it down. A host's listing holds only rows in range.
-#[derive(Clone, Copy)]
+#[derive(Clone, Copy, Default)]
 pub struct Row {
     pub address: u8,
     pub id: [u8; 5],
     pub on: bool,
 }
 
-/// Rows stand in the order of their addresses, and at one address of their ID bytes.
+impl Row {
+    /// The row that a pair names, on or off.
+    pub fn new(pair: Pair, on: bool) -> Row
+        ensures { result ≡ named pair on }
+    {
+        let Pair { address, id } = pair;
+        Row { address, id, on }
+    }
+
+    /// What names the row.
+    pub fn pair(self) -> Pair
+        ensures { result ≡ pair_of self }
+    {
+        let Row { address, id, on: _ } = self;
+        Pair { address, id }
+    }
+}
+
+/// Rows stand in the order of their pairs.
 impl Keyed for Row {
     ghost key = { row_key };
 
     fn compare(&self, other: &Row) -> Ordering {
-        match self.address.cmp(&other.address) {
-            Ordering::Equal => self.id.cmp(&other.id),
-            unequal => unequal,
-        }
+        self.pair().compare(&other.pair())
     }
 }

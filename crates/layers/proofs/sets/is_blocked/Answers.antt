@@ -1,5 +1,6 @@
 use Rattle.std.proofs.Common.{false, not, ◌&&◌, [], sym, ap, arith}
-use Rattle.host.specs.Rows.{row, any}
+use Rattle.std.specs.List.{list_any}
+use Rattle.host.specs.Rows.{row}
 use Rattle.layers.specs.Models.{members_of}
 use Rattle.layers.specs.Sets.{rival}
 use Rattle.layers.proofs.Lookups.{any_here, any_passed, any_done}
@@ -7,7 +8,7 @@ use Rattle.layers.proofs.sets.is_blocked.Goals as goal
 
 pub loop-k-init : goal.loop-k-init
 loop-k-init g c =
-    ap (any (λ x. rival (members_of c.args.members.now) c.args.address c.args.id x && not ((g.B.Host.consents c.args.below.now).off c.args.address x.id))) c.rows-rows.ensures
+    ap (list_any (λ x. rival (members_of c.args.members.now) c.args.address c.args.id x && not ((g.B.Host.consents c.args.below.now).off c.args.address x.id))) c.rows-rows.ensures
 
 pub returns-then-blocks : goal.returns-then-blocks
 returns-then-blocks g c =

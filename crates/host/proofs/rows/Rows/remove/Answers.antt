@@ -12,8 +12,8 @@ returns c =
     record {
       rows =
           c.remove-self.ensures.value (omega (arith, c.requires.within, c.requires.whole)) c.requires.order
-          ∙ ap (λ (x : Row). without row_key x (listed t)) c.fresh.ensures
-          ∙ without-same (listed t) c.args.address c.args.id false;
+          ∙ ap (λ (x : Row). without row_key x (listed t)) c.new.ensures
+          ∙ without-same (listed t) c.args.pair.address c.args.pair.id false;
       within = search rules;
       whole = search rules;
     }
