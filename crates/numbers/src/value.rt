@@ -10,10 +10,11 @@ use std::marker::Model;
 const USABLE: u32 = 268_435_200;
 
 /// The own number, which is usable, and up to 32 other devices: rising, each once, all usable, the own never among them.
+/// By a rule it is written whole on change.
 #[derive(Drop)]
 pub struct Numbers {
     own: u32,
-    // Fixed memory: slots, and how many are in use, as `rising` takes them.
+    // A rule: no heap. So these are slots, and the first `count` of them are in use.
     others: [u32; 32],
     count: usize,
 }
@@ -141,7 +142,7 @@ impl Numbers {
     {
         let Numbers { others, count, .. } = *self;
         let mut own = draw % USABLE;
-        // `find` over these numbers would answer an Option, which is never None.
+        // A loop: `find` over the numbers from here on would answer an Option that is never None.
         while self.is_taken(own) {
             own = following(own);
         }

@@ -1,4 +1,5 @@
 //! Lists in rising order of a key, for any record that has one: find, enter and remove.
+//! By a rule the slots are memory of the caller's, and the first `count` of them are in use.
 #![tactic(auto)]
 
 ghost use Rattle.std.specs.Prelude.{◌≡◌, ℕ, ◌+◌, ◌<◌, ◌≤◌, List, [], ◌∷◌, ◌++◌, length, take, drop, is_some, Some, None, MatchOption, MatchResult, slice_index_or};
