@@ -1,5 +1,5 @@
 -- What a collector tells of a stream, and the messages that stand in it.
-use Rattle.std.proofs.Common.{◌≡◌, ℕ, suc, ◌<◌, ◌≤◌, Bool, true, false, cond, ◌&&◌, eqb, ltb, leb, ◌⊎◌, List, [], ◌∷◌, ◌++◌, length, Some, None, Option, sym, refl, ap, ◌∙◌, ⊎_elim, append_assoc, arith}
+use Rattle.std.proofs.Common.{◌≡◌, ℕ, suc, ◌<◌, ◌≤◌, Bool, true, false, cond, ◌&&◌, eqb, ltb, leb, List, [], ◌∷◌, ◌++◌, length, Some, None, Option, sym, refl, ap, ◌∙◌, inl, inr, append_assoc, arith}
 use Rattle.std.proofs.lemmas.List.{length-append, length_push, take_at, append-nil}
 use Rattle.std.proofs.lemmas.Bool.{and_parts, and_from, lt-ltb, cond-true, cond-false, le-leb, lt-leb, ne_eqb, cases_lt, cases_eq}
 use Rattle.std.proofs.lemmas.Bool.Decides.{nat_tests}
@@ -7,9 +7,6 @@ use Rattle.collector.specs.Step.{Fed, quiet, ended, feeds}
 use Rattle.collector.specs.Streams.{State, left, told, heard, data_bytes, framed, without_real_time, body, closes, begun, begun_in}
 use Rattle.collector.specs.Laws.{TellsTheMessages, OpeningForgets}
 use Rattle.collector.proofs.Runs.{opens, joins_next, ends_next, same_length}
-
-pub either : {P Q R : Type 0} → P ⊎ Q → (P → R) → (Q → R) → R
-either s f g = ⊎_elim f g s
 
 -- what a call does, by its byte
 pub skips : (h : Option ℕ) (y : ℕ) (b : List ℕ) → 0xF8 ≤ y → 512 ≤ length b → feeds h y b ≡ quiet h b
@@ -151,16 +148,16 @@ grown : (stream : List ℕ) → Means stream → (xs rest : List ℕ) (y : ℕ) 
     → heard (state_of (Some xs) rest) (y ∷ stream) ≡ means (Some xs) (y ∷ without_real_time stream)
 grown stream ih xs [] y fine room r p q = let k = length-append xs [] in absurd (omega arith)
 grown stream ih xs (z ∷ rest) y fine room r p q =
-    either (cases_lt y 0x80)
-    (λ low.
+    elim (cases_lt y 0x80) [
+    | inl low ↦
     let k = length_push xs y in
     let same = same_length (0xF0 ∷ xs) rest z y in
     ap (λ (f : Fed). adds f stream) (joins_open xs rest z y room low r)
     ∙ ih (Some (xs ++ (y ∷ []))) rest (omega arith, data_push xs y fine.1 low) (omega arith)
     ∙ ap (λ (ms : List (List ℕ)). ms ++ begun_in (without_real_time stream)) (sym (becomes-joined xs (without_real_time stream) y low))
-    ∙ ap (λ (ms : List (List ℕ)). becomes xs (y ∷ without_real_time stream) ++ ms) (sym (passes y (without_real_time stream) q)))
-    (λ high. either (cases_eq y 0xF7)
-    (λ e.
+    ∙ ap (λ (ms : List (List ℕ)). becomes xs (y ∷ without_real_time stream) ++ ms) (sym (passes y (without_real_time stream) q))
+    | inr high ↦ elim (cases_eq y 0xF7) [
+    | inl e ↦
     let same = same_length (0xF0 ∷ xs) rest z 0xF7 in
     ap (λ (b : ℕ). heard (state_of (Some xs) (z ∷ rest)) (b ∷ stream)) e
     ∙ ap (λ (f : Fed). adds f stream) (ends_open xs rest z room r)
@@ -168,22 +165,24 @@ grown stream ih xs (z ∷ rest) y fine room r p q =
     ∙ ap (λ (ms : List (List ℕ)). framed xs ∷ ms) (ih None (framed xs ++ rest) tt (omega arith))
     ∙ ap (λ (ms : List (List ℕ)). ms ++ begun_in (without_real_time stream))
     (sym (becomes-ended xs (without_real_time stream) (omega arith)))
-    ∙ ap (λ (b : ℕ). means (Some xs) (b ∷ without_real_time stream)) (sym e))
-    (λ ne.
+    ∙ ap (λ (b : ℕ). means (Some xs) (b ∷ without_real_time stream)) (sym e)
+    | inr ne ↦
     let_go stream ih xs (z ∷ rest) y r q (drops (length (0xF0 ∷ xs)) y ((0xF0 ∷ xs) ++ (z ∷ rest)) p q ne high r)
-    (becomes_dropped xs (without_real_time stream) y high ne)))
+    (becomes_dropped xs (without_real_time stream) y high ne)
+    ] ]
 
 plain : (stream : List ℕ) → Means stream → (o : Option (List ℕ)) (rest : List ℕ) (y : ℕ) → Fine o
     → 512 ≤ length (state_of o rest).buffer → y < 0xF8 → (y ≡ 0xF0 → ⊥)
     → heard (state_of o rest) (y ∷ stream) ≡ means o (y ∷ without_real_time stream)
 plain stream ih None rest y fine r p q = idle stream ih rest y r p q
 plain stream ih (Some xs) rest y fine r p q =
-    either (cases_lt (length xs) 511)
-    (λ room. grown stream ih xs rest y fine room r p q)
-    (λ none.
+    elim (cases_lt (length xs) 511) [
+    | inl room ↦ grown stream ih xs rest y fine room r p q
+    | inr none ↦
     let n : length xs ≡ 511 = omega (arith, fine.0) in
     let_go stream ih xs rest y r q (full_open xs ((0xF0 ∷ xs) ++ rest) y n p q r)
-    (becomes-long xs (y ∷ without_real_time stream) (omega arith)))
+    (becomes-long xs (y ∷ without_real_time stream) (omega arith))
+    ]
 
 opening_drops : (o : Option (List ℕ)) (stream : List ℕ) → means o (0xF0 ∷ stream) ≡ begun_in (0xF0 ∷ stream)
 opening_drops None stream = refl
@@ -193,16 +192,16 @@ pub meaning : (stream : List ℕ) → Means stream
 meaning [] None rest fine r = refl
 meaning [] (Some xs) rest fine r = refl
 meaning (y ∷ stream) o rest fine r =
-    either (cases_lt y 0xF8)
-    (λ low. either (cases_eq y 0xF0)
-    (λ e.
+    elim (cases_lt y 0xF8) [
+    | inl low ↦ elim (cases_eq y 0xF0) [
+    | inl e ↦
     ap (λ (b : ℕ). heard (state_of o rest) (b ∷ stream)) e
     ∙ opened stream (meaning stream) (state_of o rest).held (state_of o rest).buffer r
     ∙ sym (opening_drops o (without_real_time stream))
     ∙ ap (λ (b : ℕ). means o (b ∷ without_real_time stream)) (sym e)
-    ∙ ap (means o) (sym (kept y stream low)))
-    (λ ne. plain stream (meaning stream) o rest y fine r low ne ∙ ap (means o) (sym (kept y stream low))))
-    (λ high. skipped stream (meaning stream) o rest y fine r high)
+    ∙ ap (means o) (sym (kept y stream low))
+    | inr ne ↦ plain stream (meaning stream) o rest y fine r low ne ∙ ap (means o) (sym (kept y stream low)) ]
+    | inr high ↦ skipped stream (meaning stream) o rest y fine r high ]
 
 pub tells_the_messages : TellsTheMessages
 tells_the_messages buffer stream r = meaning stream None buffer tt r
