@@ -1,120 +1,19 @@
--- What each call tells.
-use Rattle.std.proofs.Common.{◌≡◌, ℕ, ◌+◌, ◌<◌, ◌≤◌, true, List, [], ◌∷◌, ◌++◌, length, take, set, Some, None, Ok, Err, Option, Result, sym, refl, ap, ◌∙◌, subst, inl, inr, arith}
-use Rattle.std.proofs.lemmas.List.{length-append, length_push, take_at, length-set}
-use Rattle.std.proofs.lemmas.Bool.{cases_lt, cases_eq}
+-- What is told where a real-time byte comes, and where an opening byte does.
+use Rattle.std.proofs.Common.{◌≡◌, ℕ, ◌<◌, ◌≤◌, List, [], ◌∷◌, ◌++◌, length, set, Some, None, Ok, Err, Option, Result, sym, refl, ap, ◌∙◌, inl, inr, arith}
+use Rattle.std.proofs.lemmas.List.{length-set}
+use Rattle.std.proofs.lemmas.Bool.{cases_lt}
 use Rattle.std.proofs.lemmas.Bool.Decides.{nat_tests}
 use Rattle.message.specs.declared.refusal.Refusal.{Refusal}
 use Rattle.message.specs.declared.refusal.Refusal.TheVariants.{BufferTooSmall}
-use Rattle.collector.specs.Step.{Fed, quiet, ended, feeds}
-use Rattle.collector.specs.Streams.{State, new_with, call, left, after, answers, told, heard, data_bytes, framed}
-use Rattle.collector.specs.Laws.{Tells, TellsWholeMessages, OpeningAnswers, RealTimeSkipped}
-use Rattle.collector.proofs.Runs.{opens, same_length}
-use Rattle.collector.proofs.Meanings.{state_of, Fine, skips, idles, drops, full_open, joins_open, ends_open, data_push, adds}
+use Rattle.collector.specs.Step.{Fed, feeds}
+use Rattle.collector.specs.Streams.{State, call, left, answers, told, heard}
+use Rattle.collector.specs.Laws.{OpeningAnswers, RealTimeSkipped}
+use Rattle.collector.proofs.Runs.{opens}
+use Rattle.collector.proofs.Meanings.{skips}
 
--- the collector is fine
-pub record Sound (s : State) : Type 0 where
-  pub open_now : Option (List ℕ)
-  pub rest : List ℕ
-  pub is : s ≡ state_of open_now rest
-  pub fine : Fine open_now
-  pub long : 512 ≤ length (state_of open_now rest).buffer
-
--- A call leaves the collector fine, and what it tells is a message.
-pub record Outcome (f : Fed) : Type 0 where
-  pub leaves : Sound (left f)
-  pub tells : (n : ℕ) → f.answer ≡ Ok (Some n) → Tells 2 n (take n f.buffer)
-
--- one more than the length that is told, or 0
-abbrev told_by : Result (Option ℕ) Refusal → ℕ
-told_by (Ok (Some n)) = n + 1
-told_by (Ok None) = 0
-told_by (Err e) = 0
-
-goes_on : (f : Fed) (o : Option (List ℕ)) (rest : List ℕ) → Fine o → 512 ≤ length (state_of o rest).buffer
-    → f ≡ quiet (state_of o rest).held (state_of o rest).buffer → Outcome f
-goes_on f o rest fine r e =
-    record {
-      leaves = record { open_now = o; rest = rest; is = ap left e; fine = fine; long = r };
-      tells = λ n t.
-          let z : ◌≡◌ {A = ℕ} 0 (n + 1) = sym (ap (λ (x : Fed). told_by x.answer) e) ∙ ap told_by t in
-          absurd (omega arith);
-    }
-
-ends : (f : Fed) (xs rest : List ℕ) → data_bytes xs ≡ true → length xs ≤ 510 → 512 ≤ length (framed xs ++ rest)
-    → f ≡ ended (length (framed xs)) (framed xs ++ rest) → Outcome f
-ends f xs rest low few r e =
-    record {
-      leaves = record { open_now = None; rest = framed xs ++ rest; is = ap left e; fine = tt; long = r };
-      tells = λ n t.
-          let z : length (framed xs) + 1 ≡ n + 1 = sym (ap (λ (x : Fed). told_by x.answer) e) ∙ ap told_by t in
-          let m : length (framed xs) ≡ n = omega (arith, z) in
-          let k = length_push xs 0xF7 in
-          let shape : take n f.buffer ≡ framed xs = ap (λ (x : Fed). take n x.buffer) e ∙ take_at (framed xs) rest n m in
-          record {
-            message = record { body = xs; shape = shape; low = low; long = ap length shape ∙ m };
-            least = omega (arith, m);
-            most = omega (arith, m, few);
-          };
-    }
-
-opens_one : (h : Option ℕ) (b : List ℕ) → 512 ≤ length b → Outcome (feeds h 0xF0 b)
-opens_one h [] r = absurd (omega arith)
-opens_one h (z ∷ b) r = goes_on (feeds h 0xF0 (z ∷ b)) (Some []) b (omega arith, refl) r (opens h (z ∷ b) r)
-
-grows : (xs rest : List ℕ) (y : ℕ) → Fine (Some xs) → length xs < 511 → 512 ≤ length ((0xF0 ∷ xs) ++ rest) → y < 0xF8
-    → (y ≡ 0xF0 → ⊥) → Outcome (call (state_of (Some xs) rest) y)
-grows xs [] y fine room r p q = let k = length-append xs [] in absurd (omega arith)
-grows xs (z ∷ rest) y fine room r p q =
-    let f = call (state_of (Some xs) (z ∷ rest)) y in
-    elim (cases_lt y 0x80) [
-    | inl low ↦
-    let k = length_push xs y in
-    let same = same_length (0xF0 ∷ xs) rest z y in
-    goes_on f (Some (xs ++ (y ∷ []))) rest (omega arith, data_push xs y fine.1 low) (omega arith) (joins_open xs rest z y room low r)
-    | inr high ↦ elim (cases_eq y 0xF7) [
-    | inl e ↦
-    let same = same_length (0xF0 ∷ xs) rest z 0xF7 in
-    ends f xs rest fine.1 (omega arith) (omega arith)
-    (ap (λ (b : ℕ). call (state_of (Some xs) (z ∷ rest)) b) e ∙ ends_open xs rest z room r)
-    | inr ne ↦
-    goes_on f None ((0xF0 ∷ xs) ++ (z ∷ rest)) tt r
-    (drops (length (0xF0 ∷ xs)) y ((0xF0 ∷ xs) ++ (z ∷ rest)) p q ne high r)
-    ] ]
-
-plainly : (o : Option (List ℕ)) (rest : List ℕ) (y : ℕ) → Fine o → 512 ≤ length (state_of o rest).buffer → y < 0xF8
-    → (y ≡ 0xF0 → ⊥) → Outcome (call (state_of o rest) y)
-plainly None rest y fine r p q = goes_on (call (state_of None rest) y) None rest tt r (idles y rest p q r)
-plainly (Some xs) rest y fine r p q =
-    elim (cases_lt (length xs) 511) [
-    | inl room ↦ grows xs rest y fine room r p q
-    | inr none ↦
-    let n : length xs ≡ 511 = omega (arith, fine.0) in
-    goes_on (call (state_of (Some xs) rest) y) None ((0xF0 ∷ xs) ++ rest) tt r (full_open xs ((0xF0 ∷ xs) ++ rest) y n p q r)
-    ]
-
-outcome : (o : Option (List ℕ)) (rest : List ℕ) (y : ℕ) → Fine o → 512 ≤ length (state_of o rest).buffer
-    → Outcome (call (state_of o rest) y)
-outcome o rest y fine r =
-    let s = state_of o rest in
-    elim (cases_lt y 0xF8) [
-    | inl low ↦ elim (cases_eq y 0xF0) [
-    | inl e ↦ subst (λ (b : ℕ). Outcome (call s b)) (sym e) (opens_one s.held s.buffer r)
-    | inr ne ↦ plainly o rest y fine r low ne ]
-    | inr high ↦ goes_on (call s y) o rest fine r (skips s.held y s.buffer high r)
-    ]
-
-outcome-of : (s : State) (y : ℕ) → Sound s → Outcome (call s y)
-outcome-of s y h =
-    subst (λ (t : State). Outcome (call t y)) (sym h.is) (outcome h.open_now h.rest y h.fine h.long)
-
-sound-after : (stream : List ℕ) (s : State) → Sound s → Sound (after s stream)
-sound-after [] s h = h
-sound-after (y ∷ stream) s h = sound-after stream (left (call s y)) (outcome-of s y h).leaves
-
-pub tells-whole : TellsWholeMessages 2
-tells-whole buffer stream y n r e =
-    let new : Sound (new_with buffer) = record { open_now = None; rest = buffer; is = refl; fine = tt; long = r } in
-    (outcome-of (after (new_with buffer) stream) y (sound-after stream (new_with buffer) new)).tells n e
+-- what one call adds
+abbrev adds : Fed → List ℕ → List (List ℕ)
+adds f stream = told f.answer f.buffer ++ heard (left f) stream
 
 -- a byte from F8h on changes nothing, in a buffer of any length
 refuses : (h : Option ℕ) (y : ℕ) (b : List ℕ) → length b < 512
