@@ -1,23 +1,20 @@
 -- What each call does, what a collector tells of a stream, and the messages that stand in it.
-use Rattle.std.proofs.Common.{◌≡◌, ℕ, suc, ◌+◌, ◌<◌, ◌≤◌, Bool, true, false, cond, ◌&&◌, eqb, ltb, leb, List, [], ◌∷◌, ◌++◌, length, take, Some, None, Ok, Err, Option, Result, sym, refl, ap, ◌∙◌, subst, inl, inr, append_assoc, arith}
+use Rattle.std.proofs.Common.{◌≡◌, ℕ, ◌+◌, ◌<◌, ◌≤◌, Bool, true, false, cond, ◌&&◌, ltb, leb, List, [], ◌∷◌, ◌++◌, length, take, Some, None, Ok, Err, Option, Result, sym, refl, ap, ◌∙◌, subst, inl, inr, append_assoc, arith}
 use Rattle.std.proofs.lemmas.List.{length-append, length_push, take_at, append-nil}
-use Rattle.std.proofs.lemmas.Bool.{and_parts, and_from, lt-ltb, cond-true, cond-false, le-leb, lt-leb, ne_eqb, cases_lt, cases_eq}
+use Rattle.std.proofs.lemmas.Bool.{and_parts, le-leb, lt-leb, cases_lt, cases_eq}
 use Rattle.std.proofs.lemmas.Bool.Decides.{nat_tests}
 use Rattle.message.specs.declared.refusal.Refusal.{Refusal}
 use Rattle.collector.specs.Step.{Fed, quiet, ended, feeds}
-use Rattle.collector.specs.Streams.{State, new_with, call, left, after, told, heard, data_bytes, framed, without_real_time, body, closes, begun, begun_in}
+use Rattle.collector.specs.Streams.{State, new_with, call, left, after, told, heard, data_bytes, framed, without_real_time, body, closes, begun_in}
 use Rattle.collector.specs.Laws.{TellsTheMessages, OpeningForgets, Tells, TellsWholeMessages}
 use Rattle.collector.proofs.Runs.{state_of, opens, joins_open, ends_open, same_length}
 
 -- what a call does, by its byte
-pub skips : (h : Option ℕ) (y : ℕ) (b : List ℕ) → 0xF8 ≤ y → 512 ≤ length b → feeds h y b ≡ quiet h b
+skips : (h : Option ℕ) (y : ℕ) (b : List ℕ) → 0xF8 ≤ y → 512 ≤ length b → feeds h y b ≡ quiet h b
 skips h y b p r = grind (arith, nat_tests)
 
 idles : (y : ℕ) (b : List ℕ) → y < 0xF8 → (y ≡ 0xF0 → ⊥) → 512 ≤ length b → feeds None y b ≡ quiet None b
 idles y b p q r = grind (arith, nat_tests)
-
-full : (y : ℕ) (b : List ℕ) → y < 0xF8 → (y ≡ 0xF0 → ⊥) → 512 ≤ length b → feeds (Some 512) y b ≡ quiet None b
-full y b p q r = grind (arith, nat_tests)
 
 drops : (n y : ℕ) (b : List ℕ) → y < 0xF8 → (y ≡ 0xF0 → ⊥) → (y ≡ 0xF7 → ⊥) → 0x80 ≤ y → 512 ≤ length b
     → feeds (Some n) y b ≡ quiet None b
@@ -28,13 +25,7 @@ abbrev becomes : List ℕ → List ℕ → List (List ℕ)
 becomes xs stream = cond (closes stream && leb (length (xs ++ body stream)) 510) (framed (xs ++ body stream) ∷ []) []
 
 becomes-joined : (xs ys : List ℕ) (y : ℕ) → y < 0x80 → becomes xs (y ∷ ys) ≡ becomes (xs ++ (y ∷ [])) ys
-becomes-joined xs ys y p =
-    let k : body (y ∷ ys) ≡ y ∷ body ys = cond-false (leb 0x80 y) [] (y ∷ body ys) (lt-leb 0x80 y p) in
-    let m : closes (y ∷ ys) ≡ closes ys = cond-false (leb 0x80 y) (eqb y 0xF7) (closes ys) (lt-leb 0x80 y p) in
-    let F : Bool → List ℕ → List (List ℕ) = λ c bs. cond (c && leb (length bs) 510) (framed bs ∷ []) [] in
-    ap (λ (c : Bool). F c (xs ++ body (y ∷ ys))) m
-    ∙ ap (λ (bs : List ℕ). F (closes ys) (xs ++ bs)) k
-    ∙ ap (F (closes ys)) (sym (append_assoc xs (y ∷ []) (body ys)))
+becomes-joined xs ys y p = let k = append_assoc xs (y ∷ []) (body ys) in grind (arith, nat_tests)
 
 -- a byte from 80h other than F7h follows
 becomes_dropped : (xs ys : List ℕ) (y : ℕ) → 0x80 ≤ y → (y ≡ 0xF7 → ⊥) → becomes xs (y ∷ ys) ≡ []
@@ -42,18 +33,13 @@ becomes_dropped xs ys y p q = grind (arith, nat_tests)
 
 -- too long already
 becomes-long : (xs stream : List ℕ) → 510 < length xs → becomes xs stream ≡ []
-becomes-long xs stream p =
-    let k = length-append xs (body stream) in
-    let t : leb (length (xs ++ body stream)) 510 ≡ false = lt-leb (length (xs ++ body stream)) 510 (omega arith) in
-    grind (arith, nat_tests)
+becomes-long xs stream p = let k = length-append xs (body stream) in grind (arith, nat_tests)
 
 becomes-ended : (xs ys : List ℕ) → length xs ≤ 510 → becomes xs (0xF7 ∷ ys) ≡ framed xs ∷ []
-becomes-ended xs ys p =
-    let F : List ℕ → List (List ℕ) = λ bs. cond (leb (length bs) 510) (framed bs ∷ []) [] in
-    ap F (append-nil xs) ∙ cond-true (leb (length xs) 510) (framed xs ∷ []) [] (le-leb (length xs) 510 p)
+becomes-ended xs ys p = let k = append-nil xs in grind (arith, nat_tests)
 
 passes : (y : ℕ) (ys : List ℕ) → (y ≡ 0xF0 → ⊥) → begun_in (y ∷ ys) ≡ begun_in ys
-passes y ys p = cond-false (eqb y 0xF0) (begun ys ++ begun_in ys) (begun_in ys) (ne_eqb y 0xF0 p)
+passes y ys p = grind (arith, nat_tests)
 
 -- what an open message may hold
 abbrev Fine : Option (List ℕ) → Type 0
@@ -68,16 +54,15 @@ abbrev means : Option (List ℕ) → List ℕ → List (List ℕ)
 means o stream = pending o stream ++ begun_in stream
 
 data_push : (xs : List ℕ) (y : ℕ) → data_bytes xs ≡ true → y < 0x80 → data_bytes (xs ++ (y ∷ [])) ≡ true
-data_push [] y p q = and_from (ltb y 0x80) true (lt-ltb y 0x80 q) refl
+data_push [] y p q = grind (arith, nat_tests)
 data_push (x ∷ xs) y p q =
     let parts = and_parts (ltb x 0x80) (data_bytes xs) p in
-    and_from (ltb x 0x80) (data_bytes (xs ++ (y ∷ []))) parts.0 (data_push xs y parts.1 q)
+    let k = data_push xs y parts.1 q in
+    grind (arith, nat_tests)
 
 full_open : (xs b : List ℕ) (y : ℕ) → length xs ≡ 511 → y < 0xF8 → (y ≡ 0xF0 → ⊥) → 512 ≤ length b
     → feeds (Some (length (0xF0 ∷ xs))) y b ≡ quiet None b
-full_open xs b y e p q r =
-    let n : suc (length xs) ≡ 512 = omega arith in
-    ap (λ (m : ℕ). feeds (Some m) y b) n ∙ full y b p q r
+full_open xs b y e p q r = grind (arith, nat_tests)
 
 -- the collector is fine
 pub record Sound (s : State) : Type 0 where

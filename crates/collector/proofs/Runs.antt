@@ -8,13 +8,6 @@ use Rattle.collector.specs.Step.{Fed, quiet, ended, feeds}
 use Rattle.collector.specs.Streams.{State, left, after, answers, data_bytes, framed}
 use Rattle.collector.specs.Laws.{Whole, ComesOutWhole}
 
--- a byte below 80h joins an open message
-joins : (n y : ℕ) (b : List ℕ) → n < 512 → y < 128 → 512 ≤ length b → feeds (Some n) y b ≡ quiet (Some (n + 1)) (set b n y)
-joins n y b p q r = grind (arith, nat_tests)
-
-ends : (n : ℕ) (b : List ℕ) → n < 512 → 512 ≤ length b → feeds (Some n) 0xF7 b ≡ ended (n + 1) (set b n 0xF7)
-ends n b p r = grind (arith, nat_tests)
-
 pub opens : (h : Option ℕ) (b : List ℕ) → 512 ≤ length b → feeds h 0xF0 b ≡ quiet (Some 1) (set b 0 0xF0)
 opens h b r = grind (arith, nat_tests)
 
@@ -24,11 +17,7 @@ set_next front rest n z y e = set_at front z rest y n e ∙ sym (append_assoc fr
 
 -- one byte more in front is one fewer behind
 pub same_length : (front rest : List ℕ) (z y : ℕ) → length ((front ++ (y ∷ [])) ++ rest) ≡ length (front ++ (z ∷ rest))
-same_length front rest z y =
-    let a = length-append (front ++ (y ∷ [])) rest in
-    let b = length_push front y in
-    let d = length-append front (z ∷ rest) in
-    omega arith
+same_length front rest z y = grind (arith, length-append)
 
 -- a collector with no message open, or with one that has xs after its F0h
 abbrev pub state_of : Option (List ℕ) → List ℕ → State
@@ -41,17 +30,15 @@ pub joins_open : (xs rest : List ℕ) (z y : ℕ) → length xs < 511 → y < 0x
     ≡ quiet (Some (length (0xF0 ∷ (xs ++ (y ∷ []))))) ((0xF0 ∷ (xs ++ (y ∷ []))) ++ rest)
 joins_open xs rest z y p q r =
     let k = length_push xs y in
-    joins (length (0xF0 ∷ xs)) y ((0xF0 ∷ xs) ++ (z ∷ rest)) (omega arith) q r
-    ∙ ap (quiet (Some (length (0xF0 ∷ xs) + 1))) (set_next (0xF0 ∷ xs) rest (length (0xF0 ∷ xs)) z y refl)
-    ∙ ap (λ (m : ℕ). quiet (Some m) ((0xF0 ∷ (xs ++ (y ∷ []))) ++ rest)) (omega arith)
+    let e = set_next (0xF0 ∷ xs) rest (length (0xF0 ∷ xs)) z y refl in
+    grind (arith, nat_tests)
 
 pub ends_open : (xs rest : List ℕ) (z : ℕ) → length xs < 511 → 512 ≤ length ((0xF0 ∷ xs) ++ (z ∷ rest))
     → feeds (Some (length (0xF0 ∷ xs))) 0xF7 ((0xF0 ∷ xs) ++ (z ∷ rest)) ≡ ended (length (framed xs)) (framed xs ++ rest)
 ends_open xs rest z p r =
     let k = length_push xs 0xF7 in
-    ends (length (0xF0 ∷ xs)) ((0xF0 ∷ xs) ++ (z ∷ rest)) (omega arith) r
-    ∙ ap (ended (length (0xF0 ∷ xs) + 1)) (set_next (0xF0 ∷ xs) rest (length (0xF0 ∷ xs)) z 0xF7 refl)
-    ∙ ap (λ (m : ℕ). ended m (framed xs ++ rest)) (omega arith)
+    let e = set_next (0xF0 ∷ xs) rest (length (0xF0 ∷ xs)) z 0xF7 refl in
+    grind (arith, nat_tests)
 
 -- What is left of a message's body and its F7h comes to the end of the message, and is told there and nowhere before.
 record Ends (xs rest body : List ℕ) : Type 0 where

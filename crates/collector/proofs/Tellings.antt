@@ -1,31 +1,20 @@
 -- What is told where a real-time byte comes, and where an opening byte does.
-use Rattle.std.proofs.Common.{◌≡◌, ℕ, ◌<◌, ◌≤◌, List, [], ◌∷◌, ◌++◌, length, set, Some, None, Ok, Err, Option, Result, sym, refl, ap, ◌∙◌, inl, inr, arith}
+use Rattle.std.proofs.Common.{◌≡◌, ℕ, ◌≤◌, List, [], ◌∷◌, ◌++◌, length, set, Some, None, Ok, Option, Result, refl, ap, arith}
 use Rattle.std.proofs.lemmas.List.{length-set}
-use Rattle.std.proofs.lemmas.Bool.{cases_lt}
 use Rattle.std.proofs.lemmas.Bool.Decides.{nat_tests}
 use Rattle.message.specs.declared.refusal.Refusal.{Refusal}
-use Rattle.message.specs.declared.refusal.Refusal.TheVariants.{BufferTooSmall}
 use Rattle.collector.specs.Step.{Fed, feeds}
 use Rattle.collector.specs.Streams.{State, call, left, answers, told, heard}
 use Rattle.collector.specs.Laws.{OpeningAnswers, RealTimeSkipped}
 use Rattle.collector.proofs.Runs.{opens}
-use Rattle.collector.proofs.Meanings.{skips}
 
 -- what one call adds
 abbrev adds : Fed → List ℕ → List (List ℕ)
 adds f stream = told f.answer f.buffer ++ heard (left f) stream
 
 -- a byte from F8h on changes nothing, in a buffer of any length
-refuses : (h : Option ℕ) (y : ℕ) (b : List ℕ) → length b < 512
-    → feeds h y b ≡ record { held = h; buffer = b; answer = Err BufferTooSmall }
-refuses h y b p = grind (arith, nat_tests)
-
 passed_by : (s : State) (y : ℕ) (stream : List ℕ) → 0xF8 ≤ y → adds (call s y) stream ≡ heard s stream
-passed_by s y stream p =
-    elim (cases_lt (length s.buffer) 512) [
-    | inl short ↦ ap (λ (f : Fed). adds f stream) (refuses s.held y s.buffer short)
-    | inr r ↦ ap (λ (f : Fed). adds f stream) (skips s.held y s.buffer p r)
-    ]
+passed_by s y stream p = grind (arith, nat_tests)
 
 pub real_time_skipped : RealTimeSkipped 0xF8
 real_time_skipped s [] more y p = passed_by s y more p
@@ -38,13 +27,11 @@ pub record Alike (f g : Fed) : Type 0 where
   pub answer : f.answer ≡ g.answer
 
 alike : (h : Option ℕ) (y : ℕ) (b d : List ℕ) → 512 ≤ length b → 512 ≤ length d → Alike (feeds h y b) (feeds h y d)
-alike None y b d r q = record { held = grind (arith, nat_tests); answer = grind (arith, nat_tests) }
-alike (Some n) y b d r q = record { held = grind (arith, nat_tests); answer = grind (arith, nat_tests) }
+alike h y b d r q = record { held = grind (arith, nat_tests); answer = grind (arith, nat_tests) }
 
 keeps_length : (h : Option ℕ) (y : ℕ) (b : List ℕ) → length (feeds h y b).buffer ≡ length b
-keeps_length None y b = let k = length-set b 0 0xF0 in grind (arith, nat_tests)
-keeps_length (Some n) y b =
-    let k = length-set b 0 0xF0 in let m = length-set b n 0xF7 in let j = length-set b n y in grind (arith, nat_tests)
+keeps_length None y b = grind (arith, nat_tests, length-set)
+keeps_length (Some n) y b = grind (arith, nat_tests, length-set)
 
 same-answers : (stream : List ℕ) (h : Option ℕ) (b d : List ℕ) → 512 ≤ length b → 512 ≤ length d
     → answers (record { held = h; buffer = b }) stream ≡ answers (record { held = h; buffer = d }) stream
@@ -53,16 +40,12 @@ same-answers (y ∷ stream) h b d r q =
     let a = alike h y b d r q in
     let k = keeps_length h y b in
     let m = keeps_length h y d in
-    ap (λ (x : Result (Option ℕ) Refusal). x ∷ answers (left (feeds h y b)) stream) a.answer
-    ∙ ap (λ (xs : List (Result (Option ℕ) Refusal)). (feeds h y d).answer ∷ xs)
-    (ap (λ (o : Option ℕ). answers (record { held = o; buffer = (feeds h y b).buffer }) stream) a.held
-    ∙ same-answers stream (feeds h y d).held (feeds h y b).buffer (feeds h y d).buffer (omega arith) (omega arith))
+    rw (a.held, a.answer) (ap (λ (xs : List (Result (Option ℕ) Refusal)). (feeds h y d).answer ∷ xs)
+    (same-answers stream (feeds h y d).held (feeds h y b).buffer (feeds h y d).buffer (omega arith) (omega arith)))
 
 pub opening-answers : OpeningAnswers 0xF0
 opening-answers s t stream r q =
     let k = length-set s.buffer 0 0xF0 in
     let m = length-set t.buffer 0 0xF0 in
-    ap (λ (f : Fed). f.answer ∷ answers (left f) stream) (opens s.held s.buffer r)
-    ∙ ap (λ (xs : List (Result (Option ℕ) Refusal)). Ok None ∷ xs)
-    (same-answers stream (Some 1) (set s.buffer 0 0xF0) (set t.buffer 0 0xF0) (omega arith) (omega arith))
-    ∙ sym (ap (λ (f : Fed). f.answer ∷ answers (left f) stream) (opens t.held t.buffer q))
+    rw (opens s.held s.buffer r, opens t.held t.buffer q) (ap (λ (xs : List (Result (Option ℕ) Refusal)). Ok None ∷ xs)
+    (same-answers stream (Some 1) (set s.buffer 0 0xF0) (set t.buffer 0 0xF0) (omega arith) (omega arith)))
