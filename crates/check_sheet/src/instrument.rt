@@ -1,27 +1,21 @@
 //! An instrument in words.
-use crate::words::{Hex, Place};
 use layers::{Member, Pair};
 use message::{Identity, Row};
 use sheet::Sheet;
 use std::io;
 use std::io::Write;
+use wording::{Hex, Place};
 
 fn write_identity<W: Write>(out: &mut W, identity: Identity) -> io::Result<()> {
-    let [a, b, c, d, e, f, g, h, i, j, k] = identity.bytes;
-    writeln!(out, "manufacturer {}", Hex { bytes: &[a, b, c] })?;
+    let bytes = &identity.bytes;
+    writeln!(out, "manufacturer {}", Hex(&bytes[0..3]))?;
     writeln!(
         out,
         "family {}, model {}",
-        Hex { bytes: &[d, e] },
-        Hex { bytes: &[f, g] }
+        Hex(&bytes[3..5]),
+        Hex(&bytes[5..7])
     )?;
-    writeln!(
-        out,
-        "revision {}",
-        Hex {
-            bytes: &[h, i, j, k]
-        }
-    )?;
+    writeln!(out, "revision {}", Hex(&bytes[7..11]))?;
     let block = identity.block;
     writeln!(out, "Function Block number {block}")
 }
@@ -34,10 +28,8 @@ fn write_rows<W: Write>(out: &mut W, rows: &[Row]) -> io::Result<()> {
     let count = rows.len();
     writeln!(out, "rows: {count}")?;
     for row in rows {
-        let place = Place {
-            address: row.address,
-        };
-        let id = Hex { bytes: &row.id };
+        let place = Place(row.address);
+        let id = Hex(&row.id);
         let state = state_of(row.on);
         writeln!(out, "  {place}: {id} {state}")?;
     }
@@ -48,11 +40,9 @@ fn write_members<W: Write>(out: &mut W, members: &[Member]) -> io::Result<()> {
     let count = members.len();
     writeln!(out, "members of sets: {count}")?;
     for set in 1..9u8 {
-        for member in members {
-            if member.set == set {
-                let id = Hex { bytes: &member.id };
-                writeln!(out, "  set {set}: {id}")?;
-            }
+        for member in members.iter().filter(|m| m.set == set) {
+            let id = Hex(&member.id);
+            writeln!(out, "  set {set}: {id}")?;
         }
     }
     Ok(())
@@ -62,10 +52,8 @@ fn write_pairs<W: Write>(out: &mut W, pairs: &[Pair]) -> io::Result<()> {
     let count = pairs.len();
     writeln!(out, "held rows: {count}")?;
     for pair in pairs {
-        let place = Place {
-            address: pair.address,
-        };
-        let id = Hex { bytes: &pair.id };
+        let place = Place(pair.address);
+        let id = Hex(&pair.id);
         writeln!(out, "  {place}: {id}")?;
     }
     Ok(())

@@ -9,7 +9,8 @@ pub mod laws;
 /// The longest message that is collected, F0h and F7h counted, and the least buffer.
 pub const LONGEST: usize = 512;
 
-/// Collects one cable's bytes. The bytes of the open message stand at the front of the buffer that is lent to each call.
+/// Collects one cable's bytes. The bytes of the open message stand at the front of the buffer that is lent to each call: there is no heap, so
+/// their place is the caller's, and only how many they are is held.
 #[derive(Clone, Copy)]
 pub struct Collector {
     held: Option<usize>,
@@ -58,12 +59,7 @@ mod tests {
 
     // Whether each byte of a stream is refused for the buffer's length.
     fn refused(collector: &mut Collector, stream: &[u8], buffer: &mut [u8]) -> bool {
-        for byte in stream {
-            if collector.feed(*byte, buffer) != Err(Refusal::BufferTooSmall) {
-                return false;
-            }
-        }
-        true
+        stream.iter().all(|byte| collector.feed(*byte, buffer) == Err(Refusal::BufferTooSmall))
     }
 
     #[test]
@@ -71,10 +67,10 @@ mod tests {
         let mut collector = Collector::new();
         let mut buffer = [9; 600];
         let told = drive(&mut collector, &[0x01, 0xF0, 0x7E, 0x7F, 0xF7], &mut buffer);
-        assert!(rt; told.messages == 1);
-        assert!(rt; told.length == 4);
+        assert_eq!(rt; told.messages, 1);
+        assert_eq!(rt; told.length, 4);
         assert!(rt; buffer.starts_with(&[0xF0, 0x7E, 0x7F, 0xF7, 9]));
-        assert!(rt; collector.open() == None);
+        assert_eq!(rt; collector.open(), None);
     }
 
     #[test]
@@ -86,8 +82,8 @@ mod tests {
             &[0xF0, 0xF8, 0x7E, 0xFE, 0xFF, 0xF7, 0xF8],
             &mut buffer,
         );
-        assert!(rt; told.messages == 1);
-        assert!(rt; told.length == 3);
+        assert_eq!(rt; told.messages, 1);
+        assert_eq!(rt; told.length, 3);
         assert!(rt; buffer.starts_with(&[0xF0, 0x7E, 0xF7, 9]));
     }
 
@@ -96,18 +92,19 @@ mod tests {
         let mut collector = Collector::new();
         let mut buffer = [9; 512];
         let by_opening = drive(&mut collector, &[0xF0, 1, 2, 3, 0xF0, 4, 0xF7], &mut buffer);
-        assert!(rt; by_opening.messages == 1);
-        assert!(rt; by_opening.length == 3);
+        assert_eq!(rt; by_opening.messages, 1);
+        assert_eq!(rt; by_opening.length, 3);
         assert!(rt; buffer.starts_with(&[0xF0, 4, 0xF7, 3, 9]));
         let by_status = drive(&mut collector, &[0xF0, 1, 0xC0, 2, 0xF7], &mut buffer);
-        assert!(rt; by_status.messages == 0);
-        assert!(rt; collector.open() == None);
+        assert_eq!(rt; by_status.messages, 0);
+        assert_eq!(rt; collector.open(), None);
         let next = drive(&mut collector, &[0xF0, 5, 0xF7, 0xF7], &mut buffer);
-        assert!(rt;
-            next.messages == 1,
+        assert_eq!(rt;
+            next.messages,
+            1,
             "F7h without an open message tells nothing"
         );
-        assert!(rt; next.length == 3);
+        assert_eq!(rt; next.length, 3);
     }
 
     #[test]
@@ -118,20 +115,20 @@ mod tests {
         stream[0] = 0xF0;
         stream[511] = 0xF7;
         let longest = drive(&mut collector, &stream, &mut buffer);
-        assert!(rt; longest.messages == 1);
-        assert!(rt; longest.length == 512);
+        assert_eq!(rt; longest.messages, 1);
+        assert_eq!(rt; longest.length, 512);
         stream[511] = 1;
         stream[512] = 0xF7;
         let ended = drive(&mut collector, &stream, &mut buffer);
-        assert!(rt; ended.messages == 0);
-        assert!(rt; collector.open() == None);
-        assert!(rt; buffer[512] == 9);
+        assert_eq!(rt; ended.messages, 0);
+        assert_eq!(rt; collector.open(), None);
+        assert_eq!(rt; buffer[512], 9);
         stream[512] = 1;
         let _ = drive(&mut collector, &stream, &mut buffer);
         assert!(rt; collector.open() == None, "dropped by a byte below 80h");
-        assert!(rt; buffer[512] == 9);
+        assert_eq!(rt; buffer[512], 9);
         let next = drive(&mut collector, &[0xF0, 0xF7], &mut buffer);
-        assert!(rt; next.length == 2);
+        assert_eq!(rt; next.length, 2);
     }
 
     #[test]
@@ -142,9 +139,9 @@ mod tests {
         let mut small = [7; 511];
         assert!(rt; refused(&mut collector, &[0xF0, 2, 0xF7, 0xC0], &mut small));
         assert!(rt; small.starts_with(&[7, 7, 7]));
-        assert!(rt; collector.open() == Some(2));
+        assert_eq!(rt; collector.open(), Some(2));
         let told = drive(&mut collector, &[3, 0xF7], &mut buffer);
-        assert!(rt; told.length == 4);
+        assert_eq!(rt; told.length, 4);
         assert!(rt; buffer.starts_with(&[0xF0, 1, 3, 0xF7]));
     }
 }

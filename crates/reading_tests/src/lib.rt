@@ -31,29 +31,25 @@ mod tests {
     // A message of so many bytes, at least two, in the front of 514: of that Sub-ID and version, and with zeros in its body.
     fn message(sub_id: u8, version: u8, length: usize) -> [u8; 514] {
         let mut bytes = [0; 514];
-        bytes[0] = 0xF0;
-        bytes[1] = 0x7E;
-        bytes[2] = 0x7F;
-        bytes[3] = 0x0D;
-        bytes[4] = sub_id;
-        bytes[5] = version;
-        if length >= 1 && length <= 514 {
-            bytes[length - 1] = 0xF7;
+        bytes[..6].copy_from_slice(&[0xF0, 0x7E, 0x7F, 0x0D, sub_id, version]);
+        if let Some(last) = bytes.get_mut(length.wrapping_sub(1)) {
+            *last = 0xF7;
         }
         bytes
     }
 
     // Whether the message of a length, and nothing else, is read.
     fn reads_length(length: usize) -> bool {
-        let bytes = message(0x20, 2, length);
-        length <= 514 && reading(&bytes[0..length]) == Outcome::Known
+        message(0x20, 2, length)
+            .get(..length)
+            .is_some_and(|bytes| reading(bytes) == Outcome::Known)
     }
 
     // Whether a message of 22 bytes with another byte at a place is read.
     fn reads_with(place: usize, byte: u8) -> bool {
         let mut bytes = message(0x22, 2, 22);
-        if place < 22 {
-            bytes[place] = byte;
+        if let Some(changed) = bytes.get_mut(place) {
+            *changed = byte;
         }
         reading(&bytes[0..22]) != Outcome::Refused
     }

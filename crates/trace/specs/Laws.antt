@@ -1,5 +1,6 @@
 -- What holds of the counts, however a stream is cut into blocks.
-use Rattle.std.specs.Prelude.{◌≡◌, ℕ, ◌+◌, ◌-◌, ◌^◌, ◌<◌, min, cond, List, [], ◌∷◌, ◌++◌, length}
+use Rattle.std.specs.Prelude.{◌≡◌, ℕ, ◌-◌, ◌^◌, ◌<◌, min, List, [], ◌∷◌, length, sum_by, count_by}
+use Rattle.std.specs.List.{concat}
 use Rattle.message.specs.Messages.{framed}
 use Rattle.collector.specs.Streams.{messages}
 use Rattle.trace.specs.Tracing.{Traced, new_tracer, takes}
@@ -10,19 +11,6 @@ abbrev pub running : Traced → List (List ℕ) → Traced
 running t [] = t
 running t (block ∷ blocks) = running (takes t block) blocks
 
-abbrev pub stream_of : List (List ℕ) → List ℕ
-stream_of [] = []
-stream_of (block ∷ blocks) = block ++ stream_of blocks
-
--- how many of the messages are of MIDI-CI, and how many bytes they all have
-abbrev pub of_midi_ci_in : List (List ℕ) → ℕ
-of_midi_ci_in [] = 0
-of_midi_ci_in (m ∷ ms) = cond (framed m) 1 0 + of_midi_ci_in ms
-
-abbrev pub bytes_in : List (List ℕ) → ℕ
-bytes_in [] = 0
-bytes_in (m ∷ ms) = length m + bytes_in ms
-
 -- a number, or the largest of 64 bits where it is above that
 abbrev pub capped : ℕ → ℕ
 capped n = min n (2 ^ 64 - 1)
@@ -31,9 +19,9 @@ capped n = min n (2 ^ 64 - 1)
 pub record Counted (stream : List ℕ) (c : Counts) : Type 0 where
   pub bytes : c.bytes ≡ capped (length stream)
   pub messages_told : c.messages ≡ capped (length (messages stream))
-  pub of_midi_ci : c.midi_ci ≡ capped (of_midi_ci_in (messages stream))
-  pub bytes_told : c.told ≡ capped (bytes_in (messages stream))
-  pub bytes_skipped : length stream < 2 ^ 64 → c.bytes - c.told ≡ length stream - bytes_in (messages stream)
+  pub of_midi_ci : c.midi_ci ≡ capped (count_by framed (messages stream))
+  pub bytes_told : c.told ≡ capped (sum_by length (messages stream))
+  pub bytes_skipped : length stream < 2 ^ 64 → c.bytes - c.told ≡ length stream - sum_by length (messages stream)
 
 abbrev pub CountsTheStream : Type 0
-CountsTheStream = (blocks : List (List ℕ)) → Counted (stream_of blocks) (running new_tracer blocks).counts
+CountsTheStream = (blocks : List (List ℕ)) → Counted (concat blocks) (running new_tracer blocks).counts

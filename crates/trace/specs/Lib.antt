@@ -1,4 +1,3 @@
-pub mod Telling
 pub mod Counting
 pub mod Tracing
 pub mod Laws

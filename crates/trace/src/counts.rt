@@ -5,7 +5,7 @@ ghost use Rattle.trace.specs.Counting.{none, with_bytes, with_message};
 use std::fmt;
 
 /// Bytes read, whole messages, those of MIDI-CI, and the bytes of all whole messages. A count that is full stays.
-#[derive(Clone, Copy)]
+#[derive(Clone, Copy, Default)]
 pub struct Counts {
     pub bytes: u64,
     pub messages: u64,
@@ -18,12 +18,7 @@ impl Counts {
     pub fn new() -> Counts
         ensures { result ≡ none }
     {
-        Counts {
-            bytes: 0,
-            messages: 0,
-            midi_ci: 0,
-            told: 0,
-        }
+        Counts::default()
     }
 
     /// The counts with so many bytes more.
@@ -40,12 +35,11 @@ impl Counts {
     pub fn with_message(self, length: usize, midi_ci: bool) -> Counts
         ensures { result ≡ with_message self length midi_ci }
     {
-        let one_if = if midi_ci { 1 } else { 0 };
         Counts {
-            bytes: self.bytes,
             messages: self.messages.saturating_add(1),
-            midi_ci: self.midi_ci.saturating_add(one_if),
+            midi_ci: self.midi_ci.saturating_add(u64::from(midi_ci)),
             told: self.told.saturating_add(length as u64),
+            ..self
         }
     }
 

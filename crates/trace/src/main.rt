@@ -2,7 +2,6 @@
 #![tactic(auto)]
 
 mod counts;
-mod told;
 mod tracer;
 
 use std::io;

@@ -5,16 +5,17 @@ ghost use Rattle.trace.specs.Laws.{CountsTheStream};
 ghost use Rattle.trace.specs.Tracing.{new_tracer, state_of, steps, takes};
 
 use crate::counts::Counts;
-use crate::told::Told;
-use collector::Collector;
+use collector::{Collector, LONGEST};
+use message::read;
 use std::io;
 use std::io::Write;
+use wording::Words;
 
 /// Collects the messages of a cable and counts them.
 #[derive(Drop)]
 pub struct Tracer {
     collector: Collector,
-    buffer: [u8; 512],
+    buffer: [u8; LONGEST],
     pub counts: Counts,
 }
 
@@ -22,9 +23,17 @@ pub struct Tracer {
 fn tell<W: Write>(message: &[u8], counts: Counts, out: &mut W) -> io::Result<Counts>
     ensures { IfOk result (λ c. c ≡ counted counts message.now) }
 {
-    let told = Told::new(message);
-    writeln!(out, "{told}")?;
-    Ok(counts.with_message(message.len(), told.is_midi_ci()))
+    let length = message.len();
+    match read(message) {
+        Ok(message) => {
+            writeln!(out, "{}", Words(message))?;
+            Ok(counts.with_message(length, true))
+        }
+        Err(_) => {
+            writeln!(out, "not a MIDI-CI message, {length} bytes")?;
+            Ok(counts.with_message(length, false))
+        }
+    }
 }
 
 impl Tracer {
@@ -35,7 +44,7 @@ impl Tracer {
     {
         Tracer {
             collector: Collector::new(),
-            buffer: [0; 512],
+            buffer: [0; LONGEST],
             counts: Counts::new(),
         }
     }

@@ -1,6 +1,7 @@
 //! What a message holds, in words.
 use crate::names::status_meaning;
-use crate::parts::{Device, Hex, Kind, number};
+use crate::parts::{Device, Hex, Kind};
+use message::muid_number;
 use std::fmt;
 
 /// The body of a Discovery or of its reply: who sends it and what it can do.
@@ -25,16 +26,15 @@ impl fmt::Display for Sender<'_> {
             "manufacturer {manufacturer}, family {family}, model {model}, revision {revision}"
         )?;
         let categories = Hex(&body[11..12]);
-        let largest = number(body[12], body[13], body[14], body[15]);
+        let largest = muid_number(body[12], body[13], body[14], body[15]);
         write!(
             f,
             ", categories {categories}h, messages up to {largest} bytes"
         )?;
-        if self.version >= 2 && body.len() > 16 {
-            let path = body[16];
-            write!(f, ", Output Path {path}")?;
+        match body.get(16) {
+            Some(path) if self.version >= 2 => write!(f, ", Output Path {path}"),
+            _ => Ok(()),
         }
-        Ok(())
     }
 }
 
@@ -47,12 +47,10 @@ pub struct Block<'a> {
 
 impl fmt::Display for Block<'_> {
     fn fmt<W: fmt::Write>(&self, f: &mut fmt::Formatter<W>) -> fmt::Result {
-        if self.version < 2 || self.body.len() < 18 {
-            return Ok(());
-        }
-        match self.body[17] {
-            0x7F => write!(f, ", no Function Block"),
-            block => write!(f, ", Function Block {block}"),
+        match self.body.get(17) {
+            Some(0x7F) if self.version >= 2 => write!(f, ", no Function Block"),
+            Some(block) if self.version >= 2 => write!(f, ", Function Block {block}"),
+            _ => Ok(()),
         }
     }
 }
@@ -64,7 +62,7 @@ pub struct Target<'a>(pub &'a [u8]);
 impl fmt::Display for Target<'_> {
     fn fmt<W: fmt::Write>(&self, f: &mut fmt::Formatter<W>) -> fmt::Result {
         match self.0 {
-            [a, b, c, d, ..] => write!(f, "{}", Device(number(*a, *b, *c, *d))),
+            [a, b, c, d, ..] => write!(f, "{}", Device(muid_number(*a, *b, *c, *d))),
             _ => write!(f, "unknown"),
         }
     }
@@ -105,6 +103,7 @@ impl fmt::Display for Unread {
         if self.version == 0 {
             return write!(f, ": not read, version 0");
         }
+        // by the byte: what is at hand may be any Sub-ID, and `SubId` gives no case for a byte
         match self.sub_id {
             0x20..=0x27 | 0x70 | 0x71 | 0x7E | 0x7F => write!(f, ": not read, too short"),
             _ => Ok(()),

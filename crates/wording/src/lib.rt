@@ -6,4 +6,5 @@ mod names;
 mod parts;
 pub mod words;
 
+pub use parts::{Hex, Place};
 pub use words::Words;

@@ -1,4 +1,5 @@
 //! Names of messages and meanings of statuses.
+//! They are matched by byte: nearly none is a message that is read, so an enum of them would only add a match from bytes to its cases.
 
 /// The name of a message of MIDI-CI 1.2 by its Sub-ID, unless the Sub-ID is reserved.
 pub(crate) fn message_name(sub_id: u8) -> Option<&'static str> {

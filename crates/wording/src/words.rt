@@ -39,9 +39,12 @@ impl fmt::Display for Words<'_> {
                 };
                 write!(f, ": {on}; {off}")
             }
-            Content::SetOn(id) | Content::SetOff(id) => write!(f, ": profile {}", Hex(id)),
-            Content::Enabled(id) | Content::Disabled(id) => write!(f, ": profile {}", Hex(id)),
-            Content::Added(id) | Content::Removed(id) => write!(f, ": profile {}", Hex(id)),
+            Content::SetOn(id)
+            | Content::SetOff(id)
+            | Content::Enabled(id)
+            | Content::Disabled(id)
+            | Content::Added(id)
+            | Content::Removed(id) => write!(f, ": profile {}", Hex(id)),
             Content::Nak(body) => write!(f, ": {}", Reason { version, body }),
             Content::Other => write!(
                 f,

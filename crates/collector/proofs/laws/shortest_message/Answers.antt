@@ -1,6 +1,5 @@
 use Rattle.std.proofs.Common.{rules}
-use Rattle.collector.proofs.Meanings.{tells_the_messages}
-use Rattle.collector.proofs.Tellings.{tells-whole}
+use Rattle.collector.proofs.Meanings.{tells_the_messages, tells-whole}
 use Rattle.collector.proofs.laws.shortest_message.Goals as goal
 
 pub returns : goal.returns
