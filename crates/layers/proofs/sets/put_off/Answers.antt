@@ -1,9 +1,13 @@
-use Rattle.std.proofs.Common.{◌≡◌, ◌+◌, ◌<◌, false, List, length, get_or, sym, ap, ◌∙◌, subst, arith}
+use Rattle.std.proofs.Common.{◌≡◌, ℕ, ◌+◌, ◌<◌, false, List, length, get_or, sym, ap, ◌∙◌, subst, arith}
+use Rattle.std.proofs.lemmas.Bool.{eqb-true}
+use Rattle.message.specs.Rows.{pair_of}
+use Rattle.message.specs.declared.pair.Pair.{Pair}
 use Rattle.message.specs.declared.row.Row.{Row}
 use Rattle.host.specs.Hosts.{Switched}
 use Rattle.layers.specs.Models.{members_of}
 use Rattle.layers.specs.Clearing.{Cleared}
 use Rattle.layers.specs.Sets.{rival}
+use Rattle.layers.specs.Lawfulness.{rival-parts}
 use Rattle.layers.proofs.Setting.{no_row, cleared_start, cleared_length, cleared_pass, cleared_turn}
 use Rattle.layers.proofs.sets.put_off.Goals as goal
 use Rattle.layers.proofs.sets.put_off.Goals.{then-is_rival, else-is_rival}
@@ -20,8 +24,8 @@ loop-k-preserved g c =
     let ms = members_of c.args.members.now in
     let b = c.args.below.now in
     let m = c.loop-k.below in
-    let a = c.args.address in
-    let i = c.args.id in
+    let a = c.args.pair.address in
+    let i = c.args.pair.id in
     let k = c.loop-k.k in
     let e = c.rows.ensures in
     let lk : k < length (g.B.Host.listing b) = omega (arith, ap length c.rows-count.ensures) in
@@ -32,8 +36,12 @@ loop-k-preserved g c =
     elim c.if-is_rival.branch [
       | then-is_rival w ↦
           let z = w.switch.new.self in
-          let does =
-          subst (λ (l : List Row). Switched (g.B.Host.listing m) (g.B.Host.consents m) (g.B.Host.fixed m) a (get_or l k no_row).id false (g.B.Host.listing z) (g.B.Host.consents z) (g.B.Host.fixed z) w.switch.result) e w.switch.ensures.does in
+          let y : Row = get_or (g.B.Host.listing m) k no_row in
+          let is : w.pair.result ≡ pair_of y = w.pair.ensures ∙ ap (λ (l : List Row). pair_of (get_or l k no_row)) e in
+          let here : a ≡ y.address = eqb-true a y.address (rival-parts ms a i y (sym told ∙ w.if-is_rival.true)).here in
+          let D : ℕ → List ℕ → Type 0 =
+          λ n j. Switched (g.B.Host.listing m) (g.B.Host.consents m) (g.B.Host.fixed m) n j false (g.B.Host.listing z) (g.B.Host.consents z) (g.B.Host.fixed z) w.switch.result in
+          let does : D a y.id = subst (λ (n : ℕ). D n y.id) (sym here) (subst (λ (p : Pair). D p.address p.id) is w.switch.ensures.does) in
           subst T (sym w.below-is) (
             cleared_turn ms _ _ _ a i k _ _ _ c.loop-k.invariant.0 no_row _ _ _ _ lk (g.B.Host.lawful m).sound.order c.requires (sym told ∙ w.if-is_rival.true) does,
             g.B.Host.keeps_on b m z c.loop-k.invariant.1 w.switch.ensures.same,
