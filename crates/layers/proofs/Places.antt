@@ -1,5 +1,5 @@
 -- Entries of lists one by one, and the set of an ID by its place.
-use Rattle.std.proofs.Common.{◌≡◌, ℕ, zero, suc, ◌+◌, ◌<◌, ◌≤◌, Bool, true, false, cond, ◌&&◌, leb, List, [], ◌∷◌, length, get_or, drop, Some, None, Ok, Option, Result, sym, refl, ap, ◌∙◌, arith}
+use Rattle.std.proofs.Common.{◌≡◌, ℕ, zero, suc, ◌<◌, ◌≤◌, Bool, true, false, cond, leb, List, [], ◌∷◌, length, get_or, Some, None, Ok, Option, Result, sym, refl, ap, ◌∙◌, arith}
 use Rattle.std.specs.List.{list_all}
 use Rattle.std.specs.Str.{bytes_eq}
 use Rattle.message.specs.declared.refusal.Refusal.{Refusal}
@@ -11,7 +11,7 @@ use Rattle.rising.specs.Lists.{found, rising, Rising}
 use Rattle.rising.proofs.Order.{same_eq, same_from}
 use Rattle.layers.specs.declared.member.Member.{Member}
 use Rattle.layers.specs.Lists.{judged, judged_entries, in_order, member_key, member_ranged}
-use Rattle.layers.specs.Sets.{set_of}
+use Rattle.layers.specs.Sets.{set_of, some_set}
 
 every_at : {X : Type 0} (p : X → Bool) (xs : List X) (k : ℕ) (d : X) → list_all p xs ≡ true → k < length xs → p (get_or xs k d) ≡ true
 every_at p [] k d h lt = absurd (omega arith)
@@ -41,6 +41,10 @@ set_positive ms k d h lt =
     let m : Member = get_or ms k d in
     let p = and_parts _ _ (and_parts _ _ (every_at member_ranged ms k d h lt)).0 in
     omega (arith, leb-true 1 m.set p.0)
+
+pub some_positive : (n : ℕ) → 0 < n → some_set n ≡ Some n
+some_positive zero h = absurd (omega arith)
+some_positive (suc n) h = refl
 
 -- entries that are not refused are in range, in order and not too many
 pub record Accepted {X : Type 0} (ranged : X → Bool) (key : X → Key) (xs : List X) : Type 0 where

@@ -118,9 +118,7 @@ impl<B: Host> Sets<B> {
         ensures does { SetsSwitched B.listing B.consents B.fixed self.old pair.address pair.id true self.new result }
         ensures same { SetsKeep B.keeps self.old self.new }
     {
-        self.consents_on(pair)
-            && self.is_off(pair)
-            && put_on(&mut self.below, &self.members, pair)
+        self.consents_on(pair) && self.is_off(pair) && put_on(&mut self.below, &self.members, pair)
     }
 
     // A plug below is the layer's: the row comes in off.
