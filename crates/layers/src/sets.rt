@@ -4,8 +4,8 @@ ghost use Rattle.std.specs.List.{list_any};
 ghost use Rattle.std.proofs.Common.{◌∙◌};
 ghost use Rattle.std.specs.Str.{bytes_eq};
 ghost use Rattle.host.specs.Rows.{look};
-ghost use Rattle.host.specs.Hosts.{differs, Switched};
-ghost use Rattle.layers.specs.Sets.{rival, set_on, setted};
+ghost use Rattle.host.specs.Hosts.{differs};
+ghost use Rattle.layers.specs.Sets.{rival, set_on};
 ghost use Rattle.layers.specs.Calls.{sets_consents, SetsSwitched, SetsPlugged, SetsPulled, SetsKeep, StaysOne};
 ghost use Rattle.layers.specs.Clearing.{Cleared};
 ghost use Rattle.layers.specs.Lawfulness.{setted_lawful};
@@ -38,33 +38,6 @@ impl<B> Sets<B> {
     {
         &self.below
     }
-}
-
-// Puts the rivals of the row off below.
-fn put_off<B: Host>(below: &mut B, members: &Members, pair: Pair)
-    requires { set_on (members_of members.now) (B.listing below.old) (B.consents below.old) pair.address pair.id ≡ true }
-    ensures done { Cleared (members_of members.now) (B.listing below.old) (B.consents below.old) (B.fixed below.old) pair.address pair.id (length (B.listing below.old)) (B.listing below.new) (B.consents below.new) (B.fixed below.new) }
-    ensures same { B.keeps below.old below.new }
-{
-    let count = below.rows().len();
-    // by index: each switch may change the rows, which are read anew
-    for k in 0..count {
-        let row = below.rows()[k];
-        if members.is_rival(pair, row) {
-            let _ = below.switch(row.pair(), false);
-        }
-    }
-}
-
-// Switches a row on below, once its rivals are off.
-fn put_on<B: Host>(below: &mut B, members: &Members, pair: Pair) -> bool
-    requires consents { set_on (members_of members.now) (B.listing below.old) (B.consents below.old) pair.address pair.id ≡ true }
-    requires moves { differs (look (B.listing below.old) pair.address pair.id) true ≡ true }
-    ensures does { Switched (B.listing below.old) (setted (members_of members.now) (B.listing below.old) (B.consents below.old)) (B.fixed below.old) pair.address pair.id true (B.listing below.new) (setted (members_of members.now) (B.listing below.new) (B.consents below.new)) (B.fixed below.new) result }
-    ensures same { B.keeps below.old below.new }
-{
-    put_off(below, members, pair);
-    below.switch(pair, true)
 }
 
 impl<B: Host> Sets<B> {
@@ -113,12 +86,39 @@ impl<B: Host> Sets<B> {
         rows.iter().any(|row| self.is_named(pair, other, *row))
     }
 
+    // Puts the rivals of the row off below.
+    fn put_off(&mut self, pair: Pair)
+        requires { set_on (members_of self.old.members) (B.listing self.old.below) (B.consents self.old.below) pair.address pair.id ≡ true }
+        ensures done { Cleared (members_of self.old.members) (B.listing self.old.below) (B.consents self.old.below) (B.fixed self.old.below) pair.address pair.id (length (B.listing self.old.below)) (B.listing self.new.below) (B.consents self.new.below) (B.fixed self.new.below) }
+        ensures same { SetsKeep B.keeps self.old self.new }
+    {
+        let count = self.below.rows().len();
+        // by index: each switch may change the rows, which are then read anew
+        for k in 0..count {
+            let row = self.below.rows()[k];
+            if self.members.is_rival(pair, row) {
+                let _ = self.below.switch(row.pair(), false);
+            }
+        }
+    }
+
+    // Switches a row on, once its rivals are off.
+    fn put_on(&mut self, pair: Pair) -> bool
+        requires consents { set_on (members_of self.old.members) (B.listing self.old.below) (B.consents self.old.below) pair.address pair.id ≡ true }
+        requires moves { differs (look (B.listing self.old.below) pair.address pair.id) true ≡ true }
+        ensures does { SetsSwitched B.listing B.consents B.fixed self.old pair.address pair.id true self.new result }
+        ensures same { SetsKeep B.keeps self.old self.new }
+    {
+        self.put_off(pair);
+        self.below.switch(pair, true)
+    }
+
     // Switches a row on, if the layer consents and the row is off.
     fn switch_on(&mut self, pair: Pair) -> bool
         ensures does { SetsSwitched B.listing B.consents B.fixed self.old pair.address pair.id true self.new result }
         ensures same { SetsKeep B.keeps self.old self.new }
     {
-        self.consents_on(pair) && self.is_off(pair) && put_on(&mut self.below, &self.members, pair)
+        self.consents_on(pair) && self.is_off(pair) && self.put_on(pair)
     }
 
     // A plug below is the layer's: the row comes in off.
