@@ -1,9 +1,10 @@
 -- Entries of lists one by one, and the set of an ID by its place.
-use Rattle.std.proofs.Common.{◌≡◌, ℕ, zero, suc, ◌<◌, ◌≤◌, Bool, true, false, cond, leb, List, [], ◌∷◌, length, get_or, Some, None, Ok, Option, Result, sym, refl, ap, ◌∙◌, arith}
+use Rattle.std.proofs.Common.{◌≡◌, ℕ, zero, suc, ◌<◌, ◌≤◌, Bool, true, false, cond, leb, List, [], ◌∷◌, length, get_or, Some, None, Ok, Option, Result, sym, refl, ap, ◌∙◌, ⊎_elim, arith}
 use Rattle.std.specs.List.{list_all}
 use Rattle.std.specs.Str.{bytes_eq}
 use Rattle.message.specs.declared.refusal.Refusal.{Refusal}
-use Rattle.std.proofs.lemmas.Bool.{and_parts, leb-true}
+use Rattle.std.proofs.lemmas.Bool.{and_parts, leb-true, both_ways, cases_Bool}
+use Rattle.std.proofs.lemmas.List.Folds.{list_all_at}
 use Rattle.std.proofs.lemmas.Bool.Decides.{same_from_decides}
 use Rattle.std.proofs.lemmas.Slice.Eq.{bytes_eq-Decides}
 use Rattle.rising.specs.Order.{Key, same_key}
@@ -14,9 +15,11 @@ use Rattle.layers.specs.Lists.{judged, judged_entries, in_order, member_key, mem
 use Rattle.layers.specs.Sets.{set_of, some_set}
 
 every_at : {X : Type 0} (p : X → Bool) (xs : List X) (k : ℕ) (d : X) → list_all p xs ≡ true → k < length xs → p (get_or xs k d) ≡ true
-every_at p [] k d h lt = absurd (omega arith)
-every_at p (x ∷ xs) zero d h lt = (and_parts (p x) (list_all p xs) h).0
-every_at p (x ∷ xs) (suc k) d h lt = every_at p xs k d (and_parts (p x) (list_all p xs) h).1 (omega arith)
+every_at p xs k d h lt =
+    ⊎_elim
+    (λ (t : (p (get_or xs k d) ≡ true)). t)
+    (λ (t : (p (get_or xs k d) ≡ false)). absurd (both_ways (list_all p xs) (list_all_at p xs k d lt t) h))
+    (cases_Bool (p (get_or xs k d)))
 
 pub same_ways : (i j : List ℕ) → bytes_eq i j ≡ same_key j i
 same_ways i j = same_from_decides (bytes_eq i j) (same_key j i) (bytes_eq-Decides i j) ((λ t. sym (same_eq j i t)), λ e. same_from j i (sym e))
