@@ -1,10 +1,11 @@
--- Entries of lists one by one, and the set of an ID by its place.
-use Rattle.std.proofs.Common.{◌≡◌, ℕ, zero, suc, ◌<◌, ◌≤◌, Bool, true, false, cond, leb, List, [], ◌∷◌, length, get_or, Some, None, Ok, Option, Result, sym, refl, ap, ◌∙◌, ⊎_elim, arith}
+-- The set of an ID by its place, and entries that are not refused.
+use Rattle.std.proofs.Common.{◌≡◌, ℕ, zero, suc, ◌<◌, ◌≤◌, Bool, true, false, cond, ◌&&◌, leb, List, [], ◌∷◌, length, get_or, Some, None, Ok, Option, Result, sym, refl, ap, ◌∙◌, arith}
 use Rattle.std.specs.List.{list_all}
 use Rattle.std.specs.Str.{bytes_eq}
+use Rattle.message.specs.Bytes.{is_id}
 use Rattle.message.specs.declared.refusal.Refusal.{Refusal}
-use Rattle.std.proofs.lemmas.Bool.{and_parts, leb-true, both_ways, cases_Bool}
-use Rattle.std.proofs.lemmas.List.Folds.{list_all_at}
+use Rattle.std.proofs.lemmas.Bool.{and_parts, leb-true}
+use Rattle.std.proofs.lemmas.List.Sums.{AllPass-from_list_all}
 use Rattle.std.proofs.lemmas.Bool.Decides.{same_from_decides}
 use Rattle.std.proofs.lemmas.Slice.Eq.{bytes_eq-Decides}
 use Rattle.rising.specs.Order.{Key, same_key}
@@ -13,13 +14,6 @@ use Rattle.rising.proofs.Order.{same_eq, same_from}
 use Rattle.layers.specs.declared.member.Member.{Member}
 use Rattle.layers.specs.Lists.{judged, judged_entries, in_order, member_key, member_ranged}
 use Rattle.layers.specs.Sets.{set_of, some_set}
-
-every_at : {X : Type 0} (p : X → Bool) (xs : List X) (k : ℕ) (d : X) → list_all p xs ≡ true → k < length xs → p (get_or xs k d) ≡ true
-every_at p xs k d h lt =
-    ⊎_elim
-    (λ (t : (p (get_or xs k d) ≡ true)). t)
-    (λ (t : (p (get_or xs k d) ≡ false)). absurd (both_ways (list_all p xs) (list_all_at p xs k d lt t) h))
-    (cases_Bool (p (get_or xs k d)))
 
 pub same_ways : (i j : List ℕ) → bytes_eq i j ≡ same_key j i
 same_ways i j = same_from_decides (bytes_eq i j) (same_key j i) (bytes_eq-Decides i j) ((λ t. sym (same_eq j i t)), λ e. same_from j i (sym e))
@@ -42,8 +36,9 @@ set_found (m ∷ ms) i d =
 pub set_positive : (ms : List Member) (k : ℕ) (d : Member) → list_all member_ranged ms ≡ true → k < length ms → 0 < (get_or ms k d).set
 set_positive ms k d h lt =
     let m : Member = get_or ms k d in
-    let p = and_parts _ _ (and_parts _ _ (every_at member_ranged ms k d h lt)).0 in
-    omega (arith, leb-true 1 m.set p.0)
+    let p = and_parts (leb 1 m.set && leb m.set 8) (is_id m.id) (AllPass-from_list_all member_ranged ms h k d lt) in
+    let q : leb 1 m.set ≡ true = (and_parts (leb 1 m.set) (leb m.set 8) p.0).0 in
+    omega (arith, leb-true 1 m.set q)
 
 pub some_positive : (n : ℕ) → 0 < n → some_set n ≡ Some n
 some_positive zero h = absurd (omega arith)

@@ -12,7 +12,6 @@ use Rattle.rising.specs.Lists.{Rising}
 use Rattle.message.specs.Rows.{row_key}
 use Rattle.message.specs.declared.row.Row.{Row}
 use Rattle.host.specs.Rows.{row, same, look}
-use Rattle.host.specs.Tables.{blank}
 use Rattle.host.specs.Hosts.{Consents, differs, goes, turned, Kept, Switched, Plugged, Pulled}
 use Rattle.layers.specs.declared.member.Member.{Member}
 use Rattle.layers.specs.Sets.{rival, set_on, setted}

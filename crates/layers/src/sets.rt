@@ -17,6 +17,7 @@ use message::{Pair, Row};
 
 /// Consents to an on exactly if the host below does and also consents to the off of each other row that is on in that set at
 /// that address, and puts these off; in all else it is the host below.
+// Not one type with `Holding`, whose `over` and `below` are alike: the fields' names tell members from pairs.
 #[derive(Drop)]
 pub struct Sets<B> {
     below: B,
