@@ -30,14 +30,16 @@ pub struct Keyboard {
 fn sound_at(pair: Pair) -> Option<Sound>
     ensures { result ≡ sound_at pair.address pair.id }
 {
-    if pair.address != 0 {
-        None
-    } else if pair.id == PIANO {
-        Some(Sound::Piano)
-    } else if pair.id == ORGAN {
-        Some(Sound::Organ)
-    } else {
-        None
+    match pair {
+        Pair {
+            address: 0,
+            id: PIANO,
+        } => Some(Sound::Piano),
+        Pair {
+            address: 0,
+            id: ORGAN,
+        } => Some(Sound::Organ),
+        _ => None,
     }
 }
 
@@ -97,11 +99,9 @@ impl Host for Keyboard {
     }
 
     fn puts_off(&self, pair: Pair, other: [u8; 5]) -> bool {
-        let there = Pair {
-            address: pair.address,
-            id: other,
-        };
-        sound_at(pair).is_some() && sound_at(there).is_some() && other != pair.id
+        sound_at(pair).is_some()
+            && sound_at(Pair { id: other, ..pair }).is_some()
+            && other != pair.id
     }
 
     fn is_fixed(&self) -> bool {
