@@ -1,14 +1,13 @@
 //! A keyboard with a piano and an organ on Channel 1, of which one plays at a time.
 ghost use Rattle.std.specs.Prelude.{◌≡◌, true};
-ghost use Rattle.std.specs.Str.{bytes_eq};
 ghost use Rattle.example_host.specs.Keyboards.{sound_at, plays, shown, one_at_a_time};
 ghost use Rattle.example_host.specs.Lawfulness.{keyboard_lawful};
 
 use host::Host;
-use message::Row;
+use message::{Pair, Row};
 
 /// A sound of the keyboard.
-#[derive(Clone, Copy)]
+#[derive(Clone, Copy, PartialEq, Eq)]
 pub enum Sound {
     Piano,
     Organ,
@@ -28,34 +27,26 @@ pub struct Keyboard {
     ghost agree: { rows ≡ shown playing },
 }
 
-fn same_id(a: [u8; 5], b: [u8; 5]) -> bool
-    ensures { result ≡ bytes_eq a b }
+fn sound_at(pair: Pair) -> Option<Sound>
+    ensures { result ≡ sound_at pair.address pair.id }
 {
-    a == b
-}
-
-fn sound_at(address: u8, id: [u8; 5]) -> Option<Sound>
-    ensures { result ≡ sound_at address id }
-{
-    if address != 0 {
-        None
-    } else if same_id(id, PIANO) {
-        Some(Sound::Piano)
-    } else if same_id(id, ORGAN) {
-        Some(Sound::Organ)
-    } else {
-        None
+    match pair {
+        Pair {
+            address: 0,
+            id: PIANO,
+        } => Some(Sound::Piano),
+        Pair {
+            address: 0,
+            id: ORGAN,
+        } => Some(Sound::Organ),
+        _ => None,
     }
 }
 
 fn is_playing(playing: Option<Sound>, sound: Sound) -> bool
     ensures { result ≡ plays playing sound }
 {
-    match (playing, sound) {
-        (Some(Sound::Piano), Sound::Piano) => true,
-        (Some(Sound::Organ), Sound::Organ) => true,
-        _ => false,
-    }
+    playing == Some(sound)
 }
 
 impl Keyboard {
@@ -99,37 +90,39 @@ impl Host for Keyboard {
         &self.rows
     }
 
-    fn may_go_on(&self, address: u8, id: [u8; 5]) -> bool {
-        sound_at(address, id).is_some()
+    fn may_go_on(&self, pair: Pair) -> bool {
+        sound_at(pair).is_some()
     }
 
-    fn may_go_off(&self, address: u8, id: [u8; 5]) -> bool {
-        sound_at(address, id).is_some()
+    fn may_go_off(&self, pair: Pair) -> bool {
+        sound_at(pair).is_some()
     }
 
-    fn puts_off(&self, address: u8, id: [u8; 5], other: [u8; 5]) -> bool {
-        sound_at(address, id).is_some() && sound_at(address, other).is_some() && !same_id(other, id)
+    fn puts_off(&self, pair: Pair, other: [u8; 5]) -> bool {
+        sound_at(pair).is_some()
+            && sound_at(Pair { id: other, ..pair }).is_some()
+            && other != pair.id
     }
 
     fn is_fixed(&self) -> bool {
         true
     }
 
-    fn switch(&mut self, address: u8, id: [u8; 5], on: bool) -> bool {
-        match sound_at(address, id) {
+    fn switch(&mut self, pair: Pair, on: bool) -> bool {
+        match sound_at(pair) {
             Some(sound) if is_playing(self.playing, sound) != on => {
-                *self = Keyboard::new(if on { Some(sound) } else { None });
+                *self = Keyboard::new(on.then_some(sound));
                 true
             }
             _ => false,
         }
     }
 
-    fn plug(&mut self, _address: u8, _id: [u8; 5]) -> bool {
+    fn plug(&mut self, _pair: Pair) -> bool {
         false
     }
 
-    fn pull(&mut self, _address: u8, _id: [u8; 5]) -> bool {
+    fn pull(&mut self, _pair: Pair) -> bool {
         false
     }
 }

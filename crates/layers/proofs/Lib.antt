@@ -3,3 +3,4 @@ pub mod Withholding
 pub mod Lookups
 pub mod Setting
 pub mod Rivals
+pub mod Options

@@ -2,7 +2,10 @@
 use Rattle.std.proofs.Common.{◌≡◌, ℕ, suc, ◌+◌, ◌<◌, Bool, true, false, cond, not, ◌&&◌, ◌||◌, eqb, List, [], ◌∷◌, map, length, get_or, Some, Option, sym, refl, ap, ◌∙◌, subst, ⊎_elim, arith, below_more}
 use Rattle.std.specs.List.{list_any}
 use Rattle.std.specs.Str.{bytes_eq}
-use Rattle.std.proofs.lemmas.List.{length-map, get_or-map, get_or_default}
+use Rattle.std.proofs.Math.Bool.{and-false}
+use Rattle.std.proofs.lemmas.List.{length-map, get_or-map, get_or_default, map-id}
+use Rattle.std.proofs.lemmas.List.Folds.{list_any_at}
+use Rattle.std.proofs.lemmas.Simd.{map-map}
 use Rattle.std.proofs.lemmas.Bool.{or_left, or_right, or_cases, or_parts, and_parts, and_from, and_left, and_right, not-true, not-false, not_from_false, eqb-true, both_ways, cases_Bool}
 use Rattle.std.proofs.lemmas.Slice.Eq.{bytes_eq-Decides}
 use Rattle.rising.specs.Lists.{Rising}
@@ -14,24 +17,11 @@ use Rattle.layers.specs.declared.member.Member.{Member}
 use Rattle.layers.specs.Sets.{rival, set_on, setted}
 use Rattle.layers.specs.Clearing.{cleared, Cleared}
 use Rattle.layers.specs.Lawfulness.{only, Rival, rival-parts, bytes_turn}
-use Rattle.layers.proofs.Lookups.{look_at, any_at, none_at, any_comp, any_less, any_same, map_comp, map_same}
-
-abbrev pub no_row : Row
-no_row = row 0 [] false
-
-eq_from_bytes : (i j : List ℕ) → bytes_eq i j ≡ true → i ≡ j
-eq_from_bytes i j h = (bytes_eq-Decides i j).0 h
-
-bytes_refl : (i : List ℕ) → bytes_eq i i ≡ true
-bytes_refl i = (bytes_eq-Decides i i).1 refl
+use Rattle.layers.proofs.Lookups.{look_at, none_at, any_comp, any_less}
 
 and_second : (x y : Bool) → (x && y) ≡ false → x ≡ true → y ≡ false
 and_second true y h e = h
 and_second false y h e = absurd (both_ways false refl e)
-
-and_false : (x : Bool) → (x && false) ≡ false
-and_false true = refl
-and_false false = refl
 
 rival_from : (ms : List Member) (a : ℕ) (i : List ℕ) (r : Row) → Rival ms a i r → rival ms a i r ≡ true
 rival_from ms a i r q = and_from _ _ q.here (and_from _ _ q.on (and_from _ _ q.joined (not_from_false _ q.other)))
@@ -49,7 +39,7 @@ free-row b o h t = not-false o (and_second b (not o) h t)
 
 -- a row with other IDs than those put off stays
 cleared-kept : (a : ℕ) (ids : List ℕ → Bool) (r : Row) → ids r.id ≡ false → cleared a ids r ≡ r
-cleared-kept a ids r h = rw (h, and_false (eqb a r.address))
+cleared-kept a ids r h = rw (h, and-false (eqb a r.address))
 
 joins : (x p s o : Bool) → cond (x && s) false (cond (x && p) false o) ≡ cond (x && (p || s)) false o
 joins true true true o = refl
@@ -80,7 +70,7 @@ module _ (ms : List Member) (l : List Row) (c : Consents) (f : Bool) (a : ℕ) (
   cleared_start h =
       record {
         ids = λ _. false;
-        rows = sym (map_same (cleared a (λ _. false)) (λ r. cleared-kept a (λ _. false) r refl) l);
+        rows = sym ((λ t. map (λ r. cleared-kept a (λ _. false) r refl t) l) ∙ map-id l);
         picks = λ j t. absurd (both_ways false refl t);
         front = λ m d lt t. absurd (omega arith);
         on = (on-parts ms l c a i h).0;
@@ -146,18 +136,17 @@ module _ (ms : List Member) (l : List Row) (c : Consents) (f : Bool) (a : ℕ) (
           ids = λ m. ids m || bytes_eq x.id m;
           rows =
               (rw g at sx.rows) ∙ ap (map (turned a x.id false (c'.names a x.id))) q.rows
-              ∙ map_comp (turned a x.id false (c'.names a x.id)) (cleared a ids) (cleared a (λ m. ids m || bytes_eq x.id m))
-              (turned-cleared a ids x.id (c'.names a x.id)) l;
+              ∙ map-map (turned a x.id false (c'.names a x.id)) (cleared a ids) l ∙ (λ t. map (λ r. turned-cleared a ids x.id (c'.names a x.id) r t) l);
           picks = λ j y.
               ⊎_elim (q.picks j)
               (λ z.
-              subst (λ (m : List ℕ). rivals ms l a i m ≡ true) (eq_from_bytes x.id j z)
-              (any_at (λ r. rival ms a i r && bytes_eq x.id r.id) l k d lk (and_from _ _ rx (bytes_refl x.id))))
+              subst (λ (m : List ℕ). rivals ms l a i m ≡ true) ((bytes_eq-Decides x.id j).0 z)
+              (list_any_at (λ r. rival ms a i r && bytes_eq x.id r.id) l k d lk (and_from _ _ rx ((bytes_eq-Decides x.id x.id).1 refl))))
               (or_cases _ _ y);
           front = λ m e lt.
               below_more (λ n. rival ms a i (get_or l n e) ≡ true → (ids (get_or l n e).id || bytes_eq x.id (get_or l n e).id) ≡ true) k
               (λ n ln y. or_left _ _ (q.front n e ln y))
-              (λ _. or_right _ _ (ap (λ (r : Row). bytes_eq x.id r.id) (get_or_default l k e d lk) ∙ bytes_refl x.id))
+              (λ _. or_right _ _ (ap (λ (r : Row). bytes_eq x.id r.id) (get_or_default l k e d lk) ∙ (bytes_eq-Decides x.id x.id).1 refl))
               m lt;
           on = K.on a i (and_right _ _ (bytes_turn i x.id vx.other)) q.on;
           off = λ j n y. let z = or_parts _ _ n in K.off a j (and_right _ _ z.1) (q.off j z.0 y);
@@ -190,7 +179,7 @@ module _ (ms : List Member) (l : List Row) (c : Consents) (f : Bool) (a : ℕ) (
       ⊎_elim
       (λ y.
       let p = and_parts _ _ y in
-      subst (λ (m : List ℕ). q.ids m ≡ true) (sym (eq_from_bytes j r.id p.1)) (h 0 r (omega arith) p.0))
+      subst (λ (m : List ℕ). q.ids m ≡ true) (sym ((bytes_eq-Decides j r.id).0 p.1)) (h 0 r (omega arith) p.0))
       (λ y. all-off xs (λ m d lt. h (suc m) d (omega arith)) j y)
       (or_cases _ _ t)
 
@@ -225,7 +214,7 @@ module _ (ms : List Member) (l : List Row) (c : Consents) (f : Bool) (a : ℕ) (
         rows =
             rw gs
             ((rw g1 at s.rows) ∙ ap (map (turned a i true (c'.names a i))) q.rows
-            ∙ map_comp (turned a i true (c'.names a i)) (cleared a ids) (turned a i true named) point l);
+            ∙ map-map (turned a i true (c'.names a i)) (cleared a ids) l ∙ (λ t. map (λ y. point y t) l));
         still = λ n. absurd (both_ways _ n gs);
         fixed = s.fixed ∙ q.fixed;
         kept = λ _ n. absurd (both_ways true n refl);
@@ -284,7 +273,7 @@ module _ (ms : List Member) (l : List Row) (c : Consents) (a : ℕ) (i : List �
       let v = rival-parts ms b j r u.0 in
       absurd
       (both_ways _ nm
-      (subst (λ (n : List ℕ). (eqb a b && bytes_eq i n) ≡ true) (sym (eq_from_bytes m r.id u.1))
+      (subst (λ (n : List ℕ). (eqb a b && bytes_eq i n) ≡ true) (sym ((bytes_eq-Decides m r.id).0 u.1))
       (subst (λ (n : ℕ). (eqb a n && bytes_eq i r.id) ≡ true) (sym (eqb-true b r.address v.here)) t))))
       (λ (y : ((rival ms b j r && bytes_eq m r.id) ≡ false)). y)
       (cases_Bool (rival ms b j r && bytes_eq m r.id))))
@@ -294,7 +283,7 @@ module _ (ms : List Member) (l : List Row) (c : Consents) (a : ℕ) (i : List �
   kept-rivals : (b : ℕ) (j m : List ℕ) → (eqb a b && bytes_eq i m) ≡ false → rivals ms (map (turned a i false names) l) b j m ≡ rivals ms l b j m
   kept-rivals b j m nm =
       any_comp (λ r. rival ms b j r && bytes_eq m r.id) (turned a i false names) l
-      ∙ any_same _ (λ r. rival ms b j r && bytes_eq m r.id) (kept-rival b j m nm) l
+      ∙ (λ t. list_any (λ r. kept-rival b j m nm r t) l)
 
   setted-kept : Kept a i (setted ms l c) (setted ms (map (turned a i false names) l) c')
   setted-kept =
@@ -316,9 +305,8 @@ setted-off ms l c f a i l' c' f' answer s =
       told = s.told;
       rows = s.rows;
       still = λ n.
-          let e = s.still n in
           let d : l' ≡ l = rw n at s.rows in
-          ap (setted ms l') e ∙ ap (λ z. setted ms z c) d;
+          (λ j. setted ms (d j) (s.still n j));
       fixed = s.fixed;
       kept = λ g o.
           let e : l' ≡ map (turned a i false (c.names a i)) l = rw g at s.rows in
@@ -335,7 +323,7 @@ setted_plugged ms l c f a i l' c' f' answer s =
       rows = s.rows;
       still = λ t.
           let d : l' ≡ l = rw t at s.rows in
-          ap (setted ms l') (s.still t) ∙ ap (λ z. setted ms z c) d;
+          (λ j. setted ms (d j) (s.still t j));
       fixed = s.fixed;
     }
 
@@ -347,6 +335,6 @@ setted_pulled ms l c f a i l' c' f' answer s =
       rows = s.rows;
       still = λ t.
           let d : l' ≡ l = rw t at s.rows in
-          ap (setted ms l') (s.still t) ∙ ap (λ z. setted ms z c) d;
+          (λ j. setted ms (d j) (s.still t j));
       fixed = s.fixed;
     }

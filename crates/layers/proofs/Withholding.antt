@@ -3,7 +3,7 @@ use Rattle.std.proofs.Common.{◌≡◌, ℕ, Bool, true, false, ◌&&◌, List,
 use Rattle.message.specs.declared.row.Row.{Row}
 use Rattle.host.specs.Rows.{look}
 use Rattle.host.specs.Hosts.{Consents, permits, differs, goes, Switched}
-use Rattle.layers.specs.declared.pair.Pair.{Pair}
+use Rattle.message.specs.declared.pair.Pair.{Pair}
 use Rattle.layers.specs.Holding.{withheld, held}
 use Rattle.layers.specs.Lawfulness.{only}
 

@@ -2,8 +2,8 @@
 use Rattle.std.specs.Prelude.{ℕ, Bool, false, cond, List}
 use Rattle.rising.specs.Lists.{holds}
 use Rattle.host.specs.Hosts.{Consents}
-use Rattle.layers.specs.declared.pair.Pair.{Pair}
-use Rattle.layers.specs.Lists.{pair_key}
+use Rattle.message.specs.declared.pair.Pair.{Pair}
+use Rattle.message.specs.Rows.{pair_key}
 
 -- whether the row of that address and ID is among the pairs
 abbrev pub withheld : List Pair → ℕ → List ℕ → Bool

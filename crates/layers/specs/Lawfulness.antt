@@ -8,7 +8,7 @@ use Rattle.std.proofs.lemmas.Slice.Eq.{bytes_eq-Decides}
 use Rattle.message.specs.declared.row.Row.{Row}
 use Rattle.host.specs.Rows.{same, look, is_there, has}
 use Rattle.host.specs.Hosts.{Consents, Lawful}
-use Rattle.layers.specs.declared.pair.Pair.{Pair}
+use Rattle.message.specs.declared.pair.Pair.{Pair}
 use Rattle.layers.specs.declared.member.Member.{Member}
 use Rattle.layers.specs.Holding.{withheld, held}
 use Rattle.layers.specs.Sets.{together, rival, setted}

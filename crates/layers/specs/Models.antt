@@ -1,16 +1,15 @@
 -- What the lists of layers mean: their entries in use. What a layer is made of: its own list, and the host below.
 use Rattle.std.specs.Prelude.{List, take}
-use Rattle.layers.specs.declared.pair.Pair.{Pair}
-use Rattle.layers.specs.declared.pairs.Pairs.{Pairs}
+use Rattle.message.specs.declared.pair.Pair.{Pair}
 use Rattle.layers.specs.declared.member.Member.{Member}
-use Rattle.layers.specs.declared.members.Members.{Members}
+use Rattle.layers.specs.declared.entries.Entries.{Entries}
 use Rattle.layers.specs.declared.holding.Holding.{Holding}
 use Rattle.layers.specs.declared.sets.Sets.{Sets}
 
-abbrev pub pairs_of : Pairs → List Pair
+abbrev pub pairs_of : {k : _} {r : _} → Entries Pair k r → List Pair
 pairs_of p = take p.count p.slots
 
-abbrev pub members_of : Members → List Member
+abbrev pub members_of : {k : _} {r : _} → Entries Member k r → List Member
 members_of m = take m.count m.slots
 
 -- the pairs that a layer withholds, and the host below it

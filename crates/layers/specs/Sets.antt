@@ -1,5 +1,5 @@
 -- The layer that keeps at most one row of a set on at an address.
-use Rattle.std.specs.Prelude.{ℕ, ◌+◌, ◌<◌, ◌≤◌, Bool, cond, not, ◌&&◌, ◌||◌, List, [], ◌∷◌, ◌==◌, nat_lt}
+use Rattle.std.specs.Prelude.{ℕ, zero, suc, ◌+◌, ◌<◌, ◌≤◌, Bool, cond, not, ◌&&◌, ◌||◌, List, [], ◌∷◌, Some, None, Option, ◌==◌, nat_lt}
 use Rattle.std.specs.List.{list_any}
 use Rattle.std.specs.Str.{bytes_eq}
 use Rattle.message.specs.declared.row.Row.{Row}
@@ -10,6 +10,11 @@ use Rattle.layers.specs.declared.member.Member.{Member}
 abbrev pub set_of : List Member → List ℕ → ℕ
 set_of [] i = 0
 set_of (m ∷ ms) i = cond (bytes_eq i m.id) m.set (set_of ms i)
+
+-- that set, if there is one
+abbrev pub some_set : ℕ → Option ℕ
+some_set zero = None
+some_set (suc n) = Some (suc n)
 
 -- two IDs are in one set
 abbrev pub together : List Member → List ℕ → List ℕ → Bool

@@ -1,10 +1,13 @@
-//! The entries of a layer's own list.
-ghost use Rattle.std.specs.Prelude.{◌≡◌, ◌≤◌, Bool, length, take};
-ghost use Rattle.std.specs.Str.{bytes_eq};
-ghost use Rattle.layers.specs.Lists.{every, judged, in_order};
+//! The entries of a layer's own list, always in order.
+ghost use Rattle.std.specs.Prelude.{◌≡◌, ◌≤◌, ⊤, Bool, true, length, take};
+ghost use Rattle.std.specs.List.{list_all};
+ghost use Rattle.rising.specs.Lists.{Rising};
+ghost use Rattle.message.specs.Rows.{pair_ranged};
+ghost use Rattle.layers.specs.Lists.{judged_entries, Made};
 
-use message::Refusal;
+use message::{Pair, Refusal};
 use rising::{Keyed, rises};
+use std::alloc::AllocError;
 
 // The most entries that a layer's list has.
 const MOST: usize = 16;
@@ -18,21 +21,35 @@ pub trait Ranged {
         ensures { result ≡ ranged self };
 }
 
-// Whether every entry is in range.
-fn all_in_range<T: Ranged + Copy>(list: &[T]) -> bool
-    ensures { result ≡ every T.ranged list.now }
-{
-    for k in 0..list.len() {
-        if !list[k].in_range() {
-            return false;
-        }
+impl Ranged for Pair {
+    ghost ranged = { pair_ranged };
+
+    fn in_range(self) -> bool {
+        self.in_range()
     }
-    true
 }
 
-/// Refuses entries of which one is out of range, and else entries that do not rise strictly or are more than 16.
-pub(crate) fn judge<T: Keyed + Ranged + Copy>(list: &[T]) -> Result<(), Refusal>
-    ensures { result ≡ judged (every T.Ranged.ranged list.now) (in_order T.Keyed.key list.now) }
+/// Up to 16 entries, in range and rising by their keys.
+#[derive(Copy)]
+pub struct Entries<T: Keyed + Ranged + Copy> {
+    slots: [T; 16],
+    count: usize,
+    ghost within: { count ≤ 16 },
+    ghost whole: { length slots ≡ 16 },
+    ghost up: { Rising T.key (take count slots) },
+    ghost fit: { list_all T.ranged (take count slots) ≡ true },
+}
+
+// Whether every entry is in range.
+fn all_in_range<T: Ranged + Copy>(list: &[T]) -> bool
+    ensures { result ≡ list_all T.ranged list.now }
+{
+    list.iter().all(|entry| entry.in_range())
+}
+
+// Refuses entries of which one is out of range, and else entries that do not rise strictly or are more than 16.
+fn judge<T: Keyed + Ranged + Copy>(list: &[T]) -> Result<(), Refusal>
+    ensures { result ≡ judged_entries T.ranged T.key list.now }
 {
     if !all_in_range(list) {
         return Err(Refusal::FieldOutOfRange);
@@ -43,18 +60,39 @@ pub(crate) fn judge<T: Keyed + Ranged + Copy>(list: &[T]) -> Result<(), Refusal>
     Ok(())
 }
 
-/// Puts the entries into the first slots.
-pub(crate) fn lay<T: Copy>(list: &[T], slots: &mut [T])
-    requires { length list.now ≤ length slots.old }
-    ensures front { take (length list.now) slots.new ≡ list.now }
-    ensures whole { length slots.new ≡ length slots.old }
-{
-    slots[0..list.len()].copy_from_slice(list);
+impl<T: Keyed + Ranged + Copy + Default> Entries<T> {
+    /// The list of these entries. Refused if one is out of range, and else if they do not rise strictly or are more than 16.
+    pub fn from_slice(list: &[T]) -> Result<Entries<T>, Refusal>
+        ensures { Made (λ e. take e.count e.slots) list.now (judged_entries T.ranged T.key list.now) result }
+    {
+        judge(list)?;
+        let mut slots = [T::default(); 16];
+        slots[..list.len()].copy_from_slice(list);
+        Ok(Entries {
+            slots,
+            count: list.len(),
+        })
+    }
 }
 
-/// Whether two IDs have the same bytes.
-pub(crate) fn same_id(one: [u8; 5], other: [u8; 5]) -> bool
-    ensures { result ≡ bytes_eq one other }
-{
-    one == other
+impl<T: Keyed + Ranged + Copy> Entries<T> {
+    /// The entries, rising.
+    pub fn as_slice(&self) -> &[T]
+        ensures value { result.now ≡ take self.now.count self.now.slots }
+        ensures few { length result.now ≤ 16 }
+        ensures up { Rising T.key result.now }
+        ensures fit { list_all T.ranged result.now ≡ true }
+    {
+        &self.slots[..self.count]
+    }
+}
+
+impl<T: Keyed + Ranged + Copy> Clone for Entries<T> {
+    ghost is_clone = { λ x y. y ≡ x };
+
+    ghost is_infallible = { λ _. ⊤ };
+
+    fn clone(&self) -> Result<Entries<T>, AllocError> {
+        Ok(*self)
+    }
 }

@@ -5,13 +5,13 @@ mod entries;
 pub mod holding;
 pub mod member;
 pub mod members;
-pub mod pair;
 pub mod pairs;
 pub mod sets;
 
+pub use entries::Entries;
 pub use holding::Holding;
 pub use member::Member;
 pub use members::Members;
-pub use pair::Pair;
+pub use message::Pair;
 pub use pairs::Pairs;
 pub use sets::Sets;

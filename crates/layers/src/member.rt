@@ -7,7 +7,7 @@ use rising::Keyed;
 use std::cmp::Ordering;
 
 /// A Profile ID and its set, one of 1 to 8, as a maker writes them down.
-#[derive(Clone, Copy)]
+#[derive(Clone, Copy, Default)]
 pub struct Member {
     pub id: [u8; 5],
     pub set: u8,
@@ -26,6 +26,6 @@ impl Ranged for Member {
     ghost ranged = { member_ranged };
 
     fn in_range(self) -> bool {
-        (1 <= self.set) & (self.set <= 8) && all_seven_bits(&self.id)
+        (1..=8).contains(&self.set) && all_seven_bits(&self.id)
     }
 }

@@ -1,20 +1,20 @@
-//! A list of pairs that is always in order.
-ghost use Rattle.std.specs.Prelude.{◌≡◌, ◌≤◌, true, length, take};
-ghost use Rattle.rising.specs.Lists.{Rising};
-ghost use Rattle.layers.specs.Lists.{every, pair_key, pair_ranged};
+//! Pairs of a layer's list.
+ghost use Rattle.std.specs.Prelude.{◌≡◌};
+ghost use Rattle.layers.specs.Models.{pairs_of};
+ghost use Rattle.layers.specs.Holding.{withheld};
 
-use crate::pair::Pair;
-
-// The calls stand apart: what they promise names the value, which cannot be done where it is declared.
-mod calls;
+use crate::entries::Entries;
+use message::Pair;
+use rising::find;
 
 /// Up to 16 pairs of address and Profile ID, in range and rising by address, then ID.
-#[derive(Clone, Copy)]
-pub struct Pairs {
-    slots: [Pair; 16],
-    count: usize,
-    ghost within: { count ≤ 16 },
-    ghost whole: { length slots ≡ 16 },
-    ghost up: { Rising pair_key (take count slots) },
-    ghost fit: { every pair_ranged (take count slots) ≡ true },
+pub type Pairs = Entries<Pair>;
+
+impl Entries<Pair> {
+    /// Whether the pair is in the list.
+    pub fn contains(&self, pair: Pair) -> bool
+        ensures { result ≡ withheld (pairs_of self.now) pair.address pair.id }
+    {
+        find(self.as_slice(), &pair).is_some()
+    }
 }

@@ -4,20 +4,20 @@ ghost use Rattle.std.specs.List.{list_any};
 ghost use Rattle.std.proofs.Common.{◌∙◌};
 ghost use Rattle.std.specs.Str.{bytes_eq};
 ghost use Rattle.host.specs.Rows.{look};
-ghost use Rattle.host.specs.Hosts.{differs, Switched, Plugged, Pulled};
-ghost use Rattle.layers.specs.Sets.{rival, set_on, setted, AtMostOne};
+ghost use Rattle.host.specs.Hosts.{differs};
+ghost use Rattle.layers.specs.Sets.{rival, set_on};
+ghost use Rattle.layers.specs.Calls.{sets_consents, SetsSwitched, SetsPlugged, SetsPulled, SetsKeep, StaysOne};
 ghost use Rattle.layers.specs.Clearing.{Cleared};
 ghost use Rattle.layers.specs.Lawfulness.{setted_lawful};
 ghost use Rattle.layers.specs.Models.{members_of};
 
-use crate::entries::same_id;
 use crate::members::Members;
-use host::Host;
-use message::Row;
-use rising::find;
+use host::{Host, find_row};
+use message::{Pair, Row};
 
 /// Consents to an on exactly if the host below does and also consents to the off of each other row that is on in that set at
 /// that address, and puts these off; in all else it is the host below.
+// Not one type with `Holding`, whose `over` and `below` are alike: the fields' names tell members from pairs.
 #[derive(Drop)]
 pub struct Sets<B> {
     below: B,
@@ -41,166 +41,136 @@ impl<B> Sets<B> {
     }
 }
 
-// Whether the row is listed and off.
-fn is_off<B: Host>(below: &B, address: u8, id: [u8; 5]) -> bool
-    ensures { result ≡ differs (look (B.Host.listing below.now) address id) true }
-{
-    let rows = below.rows();
-    match find(
-        rows,
-        &Row {
-            address,
-            id,
-            on: false,
-        },
-    ) {
-        Some(k) => !rows[k].on,
-        None => false,
-    }
-}
-
-// Whether the row in the listing is a rival that the host below keeps on.
-fn blocks<B: Host>(row: Row, below: &B, members: &Members, address: u8, id: [u8; 5]) -> bool
-    ensures { result ≡ (rival (members_of members.now) address id row && not ((B.Host.consents below.now).off address row.id)) }
-{
-    members.is_rival(address, id, row) && !below.may_go_off(address, row.id)
-}
-
-// Whether the host below keeps a rival of the row on.
-fn is_blocked<B: Host>(below: &B, members: &Members, address: u8, id: [u8; 5]) -> bool
-    ensures { result ≡ list_any (λ x. rival (members_of members.now) address id x && not ((B.Host.consents below.now).off address x.id)) (B.Host.listing below.now) }
-{
-    let rows = below.rows();
-    for k in 0..rows.len() {
-        if blocks(rows[k], below, members, address, id) {
-            return true;
-        }
-    }
-    false
-}
-
-// Whether the row may go on: the host below consents to it, and to the off of its rivals.
-fn consents_on<B: Host>(below: &B, members: &Members, address: u8, id: [u8; 5]) -> bool
-    ensures { result ≡ set_on (members_of members.now) (B.Host.listing below.now) (B.Host.consents below.now) address id }
-{
-    below.may_go_on(address, id) && !is_blocked(below, members, address, id)
-}
-
-// Whether the row in the listing is a rival with the other ID.
-fn is_named(row: Row, members: &Members, address: u8, id: [u8; 5], other: [u8; 5]) -> bool
-    ensures { result ≡ (rival (members_of members.now) address id row && bytes_eq other row.id) }
-{
-    members.is_rival(address, id, row) && same_id(other, row.id)
-}
-
-// Whether the other ID is that of a rival.
-fn names_rival<B: Host>(
-    below: &B,
-    members: &Members,
-    address: u8,
-    id: [u8; 5],
-    other: [u8; 5],
-) -> bool
-    ensures { result ≡ list_any (λ x. rival (members_of members.now) address id x && bytes_eq other x.id) (B.Host.listing below.now) }
-{
-    let rows = below.rows();
-    for k in 0..rows.len() {
-        if is_named(rows[k], members, address, id, other) {
-            return true;
-        }
-    }
-    false
-}
-
-// Puts the rivals of the row off below.
-fn put_off<B: Host>(below: &mut B, members: &Members, address: u8, id: [u8; 5])
-    requires { set_on (members_of members.now) (B.Host.listing below.old) (B.Host.consents below.old) address id ≡ true }
-    ensures done { Cleared (members_of members.now) (B.Host.listing below.old) (B.Host.consents below.old) (B.Host.fixed below.old) address id (length (B.Host.listing below.old)) (B.Host.listing below.new) (B.Host.consents below.new) (B.Host.fixed below.new) }
-    ensures same { B.Host.keeps below.old below.new }
-{
-    let count = below.rows().len();
-    for k in 0..count {
-        let row = below.rows()[k];
-        if members.is_rival(address, id, row) {
-            let _ = below.switch(address, row.id, false);
-        }
-    }
-}
-
-// Switches a row on below, once its rivals are off.
-fn put_on<B: Host>(below: &mut B, members: &Members, address: u8, id: [u8; 5]) -> bool
-    requires consents { set_on (members_of members.now) (B.Host.listing below.old) (B.Host.consents below.old) address id ≡ true }
-    requires moves { differs (look (B.Host.listing below.old) address id) true ≡ true }
-    ensures does { Switched (B.Host.listing below.old) (setted (members_of members.now) (B.Host.listing below.old) (B.Host.consents below.old)) (B.Host.fixed below.old) address id true (B.Host.listing below.new) (setted (members_of members.now) (B.Host.listing below.new) (B.Host.consents below.new)) (B.Host.fixed below.new) result }
-    ensures same { B.Host.keeps below.old below.new }
-{
-    put_off(below, members, address, id);
-    below.switch(address, id, true)
-}
-
-// Switches a row on, if the layer consents and the row is off.
-fn switch_on<B: Host>(below: &mut B, members: &Members, address: u8, id: [u8; 5]) -> bool
-    ensures does { Switched (B.Host.listing below.old) (setted (members_of members.now) (B.Host.listing below.old) (B.Host.consents below.old)) (B.Host.fixed below.old) address id true (B.Host.listing below.new) (setted (members_of members.now) (B.Host.listing below.new) (B.Host.consents below.new)) (B.Host.fixed below.new) result }
-    ensures same { B.Host.keeps below.old below.new }
-{
-    if consents_on(below, members, address, id) && is_off(below, address, id) {
-        put_on(below, members, address, id)
-    } else {
-        false
-    }
-}
-
 impl<B: Host> Sets<B> {
-    // A plug below is the layer's: the row comes in off.
-    fn pass_plug(&mut self, address: u8, id: [u8; 5]) -> bool
-        ensures does { Plugged (B.Host.listing self.old.below) (setted (members_of self.old.members) (B.Host.listing self.old.below) (B.Host.consents self.old.below)) (B.Host.fixed self.old.below) address id (B.Host.listing self.new.below) (setted (members_of self.new.members) (B.Host.listing self.new.below) (B.Host.consents self.new.below)) (B.Host.fixed self.new.below) result }
-        ensures same { (members_of self.old.members ≡ members_of self.new.members) × B.Host.keeps self.old.below self.new.below }
-        ensures one { AtMostOne (members_of self.old.members) (B.Host.listing self.old.below) → AtMostOne (members_of self.new.members) (B.Host.listing self.new.below) }
+    // Whether the row is listed and off.
+    fn is_off(&self, pair: Pair) -> bool
+        ensures { result ≡ differs (look (B.listing self.now.below) pair.address pair.id) true }
     {
-        self.below.plug(address, id)
+        let rows = self.below.rows();
+        find_row(rows, pair).is_some_and(|k| !rows[k].on)
+    }
+
+    // Whether the row in the listing is a rival that the host below keeps on.
+    fn is_stuck(&self, pair: Pair, row: Row) -> bool
+        ensures { result ≡ (rival (members_of self.now.members) pair.address pair.id row && not ((B.consents self.now.below).off pair.address row.id)) }
+    {
+        self.members.is_rival(pair, row) && !self.below.may_go_off(row.pair())
+    }
+
+    // Whether the host below keeps a rival of the row on.
+    fn is_blocked(&self, pair: Pair) -> bool
+        ensures { result ≡ list_any (λ x. rival (members_of self.now.members) pair.address pair.id x && not ((B.consents self.now.below).off pair.address x.id)) (B.listing self.now.below) }
+    {
+        let rows = self.below.rows();
+        rows.iter().any(|row| self.is_stuck(pair, *row))
+    }
+
+    // Whether the row may go on: the host below consents to it, and to the off of its rivals.
+    fn consents_on(&self, pair: Pair) -> bool
+        ensures { result ≡ set_on (members_of self.now.members) (B.listing self.now.below) (B.consents self.now.below) pair.address pair.id }
+    {
+        self.below.may_go_on(pair) && !self.is_blocked(pair)
+    }
+
+    // Whether the row in the listing is a rival with the other ID.
+    fn is_named(&self, pair: Pair, other: [u8; 5], row: Row) -> bool
+        ensures { result ≡ (rival (members_of self.now.members) pair.address pair.id row && bytes_eq other row.id) }
+    {
+        self.members.is_rival(pair, row) && other == row.id
+    }
+
+    // Whether the other ID is that of a rival.
+    fn names_rival(&self, pair: Pair, other: [u8; 5]) -> bool
+        ensures { result ≡ list_any (λ x. rival (members_of self.now.members) pair.address pair.id x && bytes_eq other x.id) (B.listing self.now.below) }
+    {
+        let rows = self.below.rows();
+        rows.iter().any(|row| self.is_named(pair, other, *row))
+    }
+
+    // Puts the rivals of the row off below.
+    fn put_off(&mut self, pair: Pair)
+        requires { set_on (members_of self.old.members) (B.listing self.old.below) (B.consents self.old.below) pair.address pair.id ≡ true }
+        ensures done { Cleared (members_of self.old.members) (B.listing self.old.below) (B.consents self.old.below) (B.fixed self.old.below) pair.address pair.id (length (B.listing self.old.below)) (B.listing self.new.below) (B.consents self.new.below) (B.fixed self.new.below) }
+        ensures same { SetsKeep B.keeps self.old self.new }
+    {
+        let count = self.below.rows().len();
+        // by index: each switch may change the rows, which are then read anew
+        for k in 0..count {
+            let row = self.below.rows()[k];
+            if self.members.is_rival(pair, row) {
+                let _ = self.below.switch(row.pair(), false);
+            }
+        }
+    }
+
+    // Switches a row on, once its rivals are off.
+    fn put_on(&mut self, pair: Pair) -> bool
+        requires consents { set_on (members_of self.old.members) (B.listing self.old.below) (B.consents self.old.below) pair.address pair.id ≡ true }
+        requires moves { differs (look (B.listing self.old.below) pair.address pair.id) true ≡ true }
+        ensures does { SetsSwitched B.listing B.consents B.fixed self.old pair.address pair.id true self.new result }
+        ensures same { SetsKeep B.keeps self.old self.new }
+    {
+        self.put_off(pair);
+        self.below.switch(pair, true)
+    }
+
+    // Switches a row on, if the layer consents and the row is off.
+    fn switch_on(&mut self, pair: Pair) -> bool
+        ensures does { SetsSwitched B.listing B.consents B.fixed self.old pair.address pair.id true self.new result }
+        ensures same { SetsKeep B.keeps self.old self.new }
+    {
+        self.consents_on(pair) && self.is_off(pair) && self.put_on(pair)
+    }
+
+    // A plug below is the layer's: the row comes in off.
+    fn pass_plug(&mut self, pair: Pair) -> bool
+        ensures does { SetsPlugged B.listing B.consents B.fixed self.old pair.address pair.id self.new result }
+        ensures same { SetsKeep B.keeps self.old self.new }
+        ensures one { StaysOne B.listing self.old self.new }
+    {
+        self.below.plug(pair)
     }
 
     // A pull below is the layer's: only a row that is off goes.
-    fn pass_pull(&mut self, address: u8, id: [u8; 5]) -> bool
-        ensures does { Pulled (B.Host.listing self.old.below) (setted (members_of self.old.members) (B.Host.listing self.old.below) (B.Host.consents self.old.below)) (B.Host.fixed self.old.below) address id (B.Host.listing self.new.below) (setted (members_of self.new.members) (B.Host.listing self.new.below) (B.Host.consents self.new.below)) (B.Host.fixed self.new.below) result }
-        ensures same { (members_of self.old.members ≡ members_of self.new.members) × B.Host.keeps self.old.below self.new.below }
-        ensures one { AtMostOne (members_of self.old.members) (B.Host.listing self.old.below) → AtMostOne (members_of self.new.members) (B.Host.listing self.new.below) }
+    fn pass_pull(&mut self, pair: Pair) -> bool
+        ensures does { SetsPulled B.listing B.consents B.fixed self.old pair.address pair.id self.new result }
+        ensures same { SetsKeep B.keeps self.old self.new }
+        ensures one { StaysOne B.listing self.old self.new }
     {
-        self.below.pull(address, id)
+        self.below.pull(pair)
     }
 }
 
 impl<B: Host> Host for Sets<B> {
-    ghost listing = { λ h. B.Host.listing h.below };
+    ghost listing = { λ h. B.listing h.below };
 
-    ghost consents = { λ h. setted (members_of h.members) (B.Host.listing h.below) (B.Host.consents h.below) };
+    ghost consents = { λ h. sets_consents B.listing B.consents h };
 
-    ghost fixed = { λ h. B.Host.fixed h.below };
+    ghost fixed = { λ h. B.fixed h.below };
 
-    ghost lawful = { λ h. setted_lawful (members_of h.members) (B.Host.listing h.below) (B.Host.consents h.below) (B.Host.lawful h.below) };
+    ghost lawful = { λ h. setted_lawful (members_of h.members) (B.listing h.below) (B.consents h.below) (B.lawful h.below) };
 
-    ghost keeps = { λ g h. (members_of g.members ≡ members_of h.members) × B.Host.keeps g.below h.below };
+    ghost keeps = { λ g h. SetsKeep B.keeps g h };
 
-    ghost keeps_itself = { λ h. (refl, B.Host.keeps_itself h.below) };
+    ghost keeps_itself = { λ h. (refl, B.keeps_itself h.below) };
 
-    ghost keeps_on = { λ g h k a b. (a.0 ∙ b.0, B.Host.keeps_on g.below h.below k.below a.1 b.1) };
+    ghost keeps_on = { λ g h k a b. (a.0 ∙ b.0, B.keeps_on g.below h.below k.below a.1 b.1) };
 
     fn rows(&self) -> &[Row] {
         self.below.rows()
     }
 
-    fn may_go_on(&self, address: u8, id: [u8; 5]) -> bool {
-        consents_on(&self.below, &self.members, address, id)
+    fn may_go_on(&self, pair: Pair) -> bool {
+        self.consents_on(pair)
     }
 
-    fn may_go_off(&self, address: u8, id: [u8; 5]) -> bool {
-        self.below.may_go_off(address, id)
+    fn may_go_off(&self, pair: Pair) -> bool {
+        self.below.may_go_off(pair)
     }
 
-    fn puts_off(&self, address: u8, id: [u8; 5], other: [u8; 5]) -> bool {
-        consents_on(&self.below, &self.members, address, id)
-            && (self.below.puts_off(address, id, other)
-                || names_rival(&self.below, &self.members, address, id, other))
+    fn puts_off(&self, pair: Pair, other: [u8; 5]) -> bool {
+        self.consents_on(pair)
+            && (self.below.puts_off(pair, other) || self.names_rival(pair, other))
     }
 
     fn is_fixed(&self) -> bool {
@@ -209,31 +179,31 @@ impl<B: Host> Host for Sets<B> {
 
     // Beside what a host promises, the three calls that change rows promise that a set with at most one row on at an address
     // never comes to have two.
-    fn switch(&mut self, address: u8, id: [u8; 5], on: bool) -> bool
-        ensures does { Switched (B.Host.listing self.old.below) (setted (members_of self.old.members) (B.Host.listing self.old.below) (B.Host.consents self.old.below)) (B.Host.fixed self.old.below) address id on (B.Host.listing self.new.below) (setted (members_of self.new.members) (B.Host.listing self.new.below) (B.Host.consents self.new.below)) (B.Host.fixed self.new.below) result }
-        ensures same { (members_of self.old.members ≡ members_of self.new.members) × B.Host.keeps self.old.below self.new.below }
-        ensures one { AtMostOne (members_of self.old.members) (B.Host.listing self.old.below) → AtMostOne (members_of self.new.members) (B.Host.listing self.new.below) }
+    fn switch(&mut self, pair: Pair, on: bool) -> bool
+        ensures does { SetsSwitched B.listing B.consents B.fixed self.old pair.address pair.id on self.new result }
+        ensures same { SetsKeep B.keeps self.old self.new }
+        ensures one { StaysOne B.listing self.old self.new }
     {
         if on {
-            switch_on(&mut self.below, &self.members, address, id)
+            self.switch_on(pair)
         } else {
-            self.below.switch(address, id, false)
+            self.below.switch(pair, false)
         }
     }
 
-    fn plug(&mut self, address: u8, id: [u8; 5]) -> bool
-        ensures does { Plugged (B.Host.listing self.old.below) (setted (members_of self.old.members) (B.Host.listing self.old.below) (B.Host.consents self.old.below)) (B.Host.fixed self.old.below) address id (B.Host.listing self.new.below) (setted (members_of self.new.members) (B.Host.listing self.new.below) (B.Host.consents self.new.below)) (B.Host.fixed self.new.below) result }
-        ensures same { (members_of self.old.members ≡ members_of self.new.members) × B.Host.keeps self.old.below self.new.below }
-        ensures one { AtMostOne (members_of self.old.members) (B.Host.listing self.old.below) → AtMostOne (members_of self.new.members) (B.Host.listing self.new.below) }
+    fn plug(&mut self, pair: Pair) -> bool
+        ensures does { SetsPlugged B.listing B.consents B.fixed self.old pair.address pair.id self.new result }
+        ensures same { SetsKeep B.keeps self.old self.new }
+        ensures one { StaysOne B.listing self.old self.new }
     {
-        self.pass_plug(address, id)
+        self.pass_plug(pair)
     }
 
-    fn pull(&mut self, address: u8, id: [u8; 5]) -> bool
-        ensures does { Pulled (B.Host.listing self.old.below) (setted (members_of self.old.members) (B.Host.listing self.old.below) (B.Host.consents self.old.below)) (B.Host.fixed self.old.below) address id (B.Host.listing self.new.below) (setted (members_of self.new.members) (B.Host.listing self.new.below) (B.Host.consents self.new.below)) (B.Host.fixed self.new.below) result }
-        ensures same { (members_of self.old.members ≡ members_of self.new.members) × B.Host.keeps self.old.below self.new.below }
-        ensures one { AtMostOne (members_of self.old.members) (B.Host.listing self.old.below) → AtMostOne (members_of self.new.members) (B.Host.listing self.new.below) }
+    fn pull(&mut self, pair: Pair) -> bool
+        ensures does { SetsPulled B.listing B.consents B.fixed self.old pair.address pair.id self.new result }
+        ensures same { SetsKeep B.keeps self.old self.new }
+        ensures one { StaysOne B.listing self.old self.new }
     {
-        self.pass_pull(address, id)
+        self.pass_pull(pair)
     }
 }

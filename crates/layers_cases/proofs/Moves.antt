@@ -19,17 +19,17 @@ pub at-number : (n a : ℕ) (i : List ℕ) → is n a i ≡ true → (a ≡ 0) �
 at-number n a i h = let p = and_parts (eqb a 0) (bytes_eq i (numbered n)) h in (eqb-true a 0 p.0, (bytes_eq-Decides i (numbered n)).0 p.1)
 
 pub first_moves : (x y z on : Bool) → Switched (desk x y z) free true 0 (numbered 1) on (desk on y (z && (x || not on))) free true (not (beq x on))
-first_moves true y true true = did (desk true y true) 0 (numbered 1) true (desk true y (true && (true || not true))) (not (beq true true)) refl refl
-first_moves true y true false = did (desk true y true) 0 (numbered 1) false (desk false y (true && (true || not false))) (not (beq true false)) refl refl
-first_moves true y false true = did (desk true y false) 0 (numbered 1) true (desk true y (false && (true || not true))) (not (beq true true)) refl refl
-first_moves true y false false = did (desk true y false) 0 (numbered 1) false (desk false y (false && (true || not false))) (not (beq true false)) refl refl
-first_moves false y true true = did (desk false y true) 0 (numbered 1) true (desk true y (true && (false || not true))) (not (beq false true)) refl refl
-first_moves false y true false = did (desk false y true) 0 (numbered 1) false (desk false y (true && (false || not false))) (not (beq false false)) refl refl
-first_moves false y false true = did (desk false y false) 0 (numbered 1) true (desk true y (false && (false || not true))) (not (beq false true)) refl refl
-first_moves false y false false = did (desk false y false) 0 (numbered 1) false (desk false y (false && (false || not false))) (not (beq false false)) refl refl
+first_moves true y true true = did _ _ _ _ _ _ refl refl
+first_moves true y true false = did _ _ _ _ _ _ refl refl
+first_moves true y false true = did _ _ _ _ _ _ refl refl
+first_moves true y false false = did _ _ _ _ _ _ refl refl
+first_moves false y true true = did _ _ _ _ _ _ refl refl
+first_moves false y true false = did _ _ _ _ _ _ refl refl
+first_moves false y false true = did _ _ _ _ _ _ refl refl
+first_moves false y false false = did _ _ _ _ _ _ refl refl
 
 pub second_moves : (x y z on : Bool) → Switched (desk x y z) free true 0 (numbered 2) on (desk x on z) free true (not (beq y on))
-second_moves x true z true = did (desk x true z) 0 (numbered 2) true (desk x true z) (not (beq true true)) refl refl
-second_moves x true z false = did (desk x true z) 0 (numbered 2) false (desk x false z) (not (beq true false)) refl refl
-second_moves x false z true = did (desk x false z) 0 (numbered 2) true (desk x true z) (not (beq false true)) refl refl
-second_moves x false z false = did (desk x false z) 0 (numbered 2) false (desk x false z) (not (beq false false)) refl refl
+second_moves x true z true = did _ _ _ _ _ _ refl refl
+second_moves x true z false = did _ _ _ _ _ _ refl refl
+second_moves x false z true = did _ _ _ _ _ _ refl refl
+second_moves x false z false = did _ _ _ _ _ _ refl refl

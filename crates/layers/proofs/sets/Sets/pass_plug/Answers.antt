@@ -11,5 +11,5 @@ returns g c =
     record {
       does = setted_plugged ms _ _ _ _ _ _ _ _ _ did;
       same = (refl, c.plug.ensures.same);
-      one = enter_one ms _ _ _ c.args.address c.args.id did.rows;
+      one = enter_one ms _ _ _ c.args.pair.address c.args.pair.id did.rows;
     }
