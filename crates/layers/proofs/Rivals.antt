@@ -72,10 +72,6 @@ less_off : (k s t : Bool) → cond (cond k false s && t) 1 0 ≤ cond (s && t) 1
 less_off true s t = omega arith
 less_off false s t = omega arith
 
-less_unkeyed : (o s t : Bool) → cond (cond o false s && t) 1 0 ≤ cond (s && t) 1 0
-less_unkeyed true s t = omega arith
-less_unkeyed false s t = omega arith
-
 at_most : (b : Bool) → cond b 1 0 ≤ 1
 at_most true = omega arith
 at_most false = omega arith
@@ -96,7 +92,7 @@ module _ (ms : List Member) (a : ℕ) (i : List ℕ) (names : List ℕ → Bool)
       let t = same_parts a i r e in
       let z : counts a' g r ≡ false = rw (← t.0, ← t.1) n in
       rw z (omega arith)
-  apart-go a' g r false e n = less_unkeyed (eqb a r.address && names r.id) r.on (counts a' g r)
+  apart-go a' g r false e n = less_off (eqb a r.address && names r.id) r.on (counts a' g r)
 
   apart-count : (a' g : ℕ) (l : List Row) → (eqb a' a && eqb g (set_of ms i)) ≡ false
       → count_on ms a' g (map (turned a i true names) l) ≤ count_on ms a' g l

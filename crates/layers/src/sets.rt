@@ -94,7 +94,7 @@ impl<B: Host> Sets<B> {
         ensures same { SetsKeep B.keeps self.old self.new }
     {
         let count = self.below.rows().len();
-        // by index: each switch may change the rows, which are then read anew
+        // by index: an iterator would hold the rows that each switch below changes
         for k in 0..count {
             let row = self.below.rows()[k];
             if self.members.is_rival(pair, row) {

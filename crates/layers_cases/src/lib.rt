@@ -51,17 +51,11 @@ mod tests {
 
     #[test]
     fn a_held_rival(rt: HostRuntime) {
-        let Ok(pairs) = Pairs::from_slice(&[at(0, FIRST)]) else {
-            assert!(rt; false, "pairs");
-            return;
-        };
-        let Ok(members) = Members::from_slice(&[
+        let pairs = Pairs::from_slice(&[at(0, FIRST)]).expect(&rt, "pairs");
+        let members = Members::from_slice(&[
             Member { id: FIRST, set: 8 },
             Member { id: SECOND, set: 8 },
-        ]) else {
-            assert!(rt; false, "members");
-            return;
-        };
+        ]).expect(&rt, "members");
         let mut refusing = Sets::over(
             Holding::over(Desk::with(true, false, false), pairs),
             members,
@@ -98,27 +92,15 @@ mod tests {
     fn piles_over_the_two_hosts(rt: HostRuntime) {
         let held = [at(0, THIRD)];
         let set = [Member { id: FIRST, set: 1 }, Member { id: SECOND, set: 1 }];
-        let Ok(pairs) = Pairs::from_slice(&held) else {
-            assert!(rt; false, "pairs");
-            return;
-        };
-        let Ok(members) = Members::from_slice(&set) else {
-            assert!(rt; false, "members");
-            return;
-        };
-        let Ok(table) = Table::from_rows(&rows()) else {
-            assert!(rt; false, "table");
-            return;
-        };
+        let pairs = Pairs::from_slice(&held).expect(&rt, "pairs");
+        let members = Members::from_slice(&set).expect(&rt, "members");
+        let table = Table::from_rows(&rows()).expect(&rt, "table");
         play(
             &rt,
             &mut Sets::over(Holding::over(table, pairs), members),
             true,
         );
-        let Ok(fixed) = Fixed::from_rows(&rows()) else {
-            assert!(rt; false, "fixed");
-            return;
-        };
+        let fixed = Fixed::from_rows(&rows()).expect(&rt, "fixed");
         play(
             &rt,
             &mut Holding::over(Sets::over(fixed, members), pairs),
@@ -128,14 +110,12 @@ mod tests {
 
     #[test]
     fn two_on_at_the_start(rt: HostRuntime) {
-        let Ok(members) = Members::from_slice(&[
+        let members = Members::from_slice(&[
             Member { id: FIRST, set: 1 },
             Member { id: SECOND, set: 1 },
             Member { id: THIRD, set: 1 },
-        ]) else {
-            assert!(rt; false, "members");
-            return;
-        };
+        ])
+        .expect(&rt, "members");
         let mut sets = Sets::over(Desk::with(true, true, false), members);
         assert!(rt; !sets.switch(at(0, SECOND), true), "on already");
         assert!(rt; !sets.switch(at(0, THIRD), false), "off already");
@@ -146,13 +126,10 @@ mod tests {
 
     #[test]
     fn rows_named_below(rt: HostRuntime) {
-        let Ok(members) = Members::from_slice(&[
+        let members = Members::from_slice(&[
             Member { id: FIRST, set: 1 },
             Member { id: SECOND, set: 1 },
-        ]) else {
-            assert!(rt; false, "members");
-            return;
-        };
+        ]).expect(&rt, "members");
         let mut sets = Sets::over(Desk::with(false, true, true), members);
         assert!(rt; sets.puts_off(at(0, FIRST), SECOND), "a rival");
         assert!(rt; sets.puts_off(at(0, FIRST), THIRD), "named below");
