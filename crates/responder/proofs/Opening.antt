@@ -1,5 +1,5 @@
 -- What is decided of a framed message.
-use Rattle.std.proofs.Common.{◌≡◌, ℕ, ◌+◌, ◌-◌, ◌≤◌, Bool, true, false, cond, not, ◌&&◌, ◌||◌, eqb, ltb, List, [], ◌∷◌, length, drop, Ok, Err, sym, refl, ap, ◌∙◌, arith}
+use Rattle.std.proofs.Common.{◌≡◌, ℕ, ◌+◌, ◌-◌, ◌≤◌, Bool, true, false, cond, not, ◌&&◌, ◌||◌, eqb, ltb, List, [], ◌∷◌, length, drop, Ok, Err, Result, sym, refl, ap, ◌∙◌, arith}
 use Rattle.std.proofs.lemmas.List.{length-take, length-drop}
 use Rattle.std.proofs.lemmas.Bool.{and_parts, or_parts, cond-true, cond-false, eq-eqb, eqb-true, ne_eqb, leb-true}
 use Rattle.message.specs.Messages.{Fields, framed, fields}
@@ -16,7 +16,7 @@ use Rattle.responder.specs.Actions.{Shows, sorted}
 use Rattle.responder.specs.Inquiries.{heard, usable, clash, for_us, for_us_by, fault, target}
 use Rattle.responder.specs.Plans.{Plan, refuse, send, hearing, inquiring, opened}
 use Rattle.responder.specs.declared.action.Sorted.{Sorted}
-use Rattle.responder.specs.declared.action.Sorted.TheVariants.{NotUnderstood, Reply, Invalidation, Heard, Inquiry}
+use Rattle.responder.specs.declared.action.Sorted.TheVariants.{Reply, Invalidation, Heard, Inquiry}
 
 -- what was read shows the fields of the bytes, which are framed
 shows_go : (m : Message) (q : Fields) → message m.address m.sub_id m.version m.source m.destination (kind_of m.content) ≡ taken_apart q (kind q)
@@ -47,28 +47,30 @@ framed-length bs f =
     (long, omega (arith, long, length-take (length bs - 15) (drop 14 bs), length-drop 14 bs))
 
 -- the plan by how a message is sorted
-by_sort : (x p q r s : Plan) → Sorted → Plan
-by_sort x p q r s NotUnderstood = x
-by_sort x p q r s Reply = p
-by_sort x p q r s Invalidation = q
-by_sort x p q r s Heard = r
-by_sort x p q r s Inquiry = s
+by_sort : (p q r s : Plan) → Result Sorted Refusal → Plan
+by_sort p q r s (Err e) = refuse e
+by_sort p q r s (Ok Reply) = p
+by_sort p q r s (Ok Invalidation) = q
+by_sort p q r s (Ok Heard) = r
+by_sort p q r s (Ok Inquiry) = s
 
-sort_plan : (x p q r s : Plan) (h e a b : Bool)
-    → cond h (cond e x (cond a p (cond b q r))) s ≡ by_sort x p q r s (cond h (cond e NotUnderstood (cond a Reply (cond b Invalidation Heard))) Inquiry)
+sort_plan : (p q r s : Plan) (h e a b : Bool)
+    → cond h (cond e (refuse Refusal.NotUnderstood) (cond a p (cond b q r))) s
+    ≡ by_sort p q r s (cond h (cond e (Err Refusal.NotUnderstood) (cond a (Ok Reply) (cond b (Ok Invalidation) (Ok Heard)))) (Ok Inquiry))
 unfolding by_sort
-sort_plan x p q r s true true a b = refl
-sort_plan x p q r s true false true b = refl
-sort_plan x p q r s true false false true = refl
-sort_plan x p q r s true false false false = refl
-sort_plan x p q r s false e a b = refl
+sort_plan p q r s true true a b = refl
+sort_plan p q r s true false true b = refl
+sort_plan p q r s true false false true = refl
+sort_plan p q r s true false false false = refl
+sort_plan p q r s false e a b = refl
 
-invalid_tests : (h e a b : Bool) → cond h (cond e NotUnderstood (cond a Reply (cond b Invalidation Heard))) Inquiry ≡ Invalidation → (b ≡ true) × (e ≡ false)
-invalid_tests true true a b h = let z : ◌≡◌ {A = ℕ} 0 1 = cc in absurd (omega arith)
-invalid_tests true false true b h = let z : ◌≡◌ {A = ℕ} 0 1 = cc in absurd (omega arith)
+invalid_tests : (h e a b : Bool) → cond h (cond e (Err Refusal.NotUnderstood) (cond a (Ok Reply) (cond b (Ok Invalidation) (Ok Heard)))) (Ok Inquiry) ≡ Ok Invalidation
+    → (b ≡ true) × (e ≡ false)
+invalid_tests true true a b h = absurd (cc)
+invalid_tests true false true b h = absurd (cc)
 invalid_tests true false false true h = (refl, refl)
-invalid_tests true false false false h = let z : ◌≡◌ {A = ℕ} 0 1 = cc in absurd (omega arith)
-invalid_tests false e a b h = let z : ◌≡◌ {A = ℕ} 0 1 = cc in absurd (omega arith)
+invalid_tests true false false false h = absurd (cc)
+invalid_tests false e a b h = absurd (cc)
 
 module _ (d : Identity) (own : ℕ) (others : List ℕ) (l : List Row) (draw : ℕ) (m : Message) (bs : List ℕ) (f : framed bs ≡ true) (w : Shows m (fields bs)) where
   abbrev q : Fields
@@ -133,11 +135,14 @@ module _ (d : Identity) (own : ℕ) (others : List ℕ) (l : List Row) (draw : �
   abbrev lost : Plan
   lost = cond (eqb (target q) own) (send (discover d (renewed own others draw) ∷ []) (renewed own others draw) others) (send [] own (forgotten (target q) others))
 
+  abbrev plan_by : Result Sorted Refusal → Plan
+  plan_by = by_sort replied lost (send [] own others) (inquiring d own others l (fault l q) q)
+
   for-us-plan : ltb m.source 268435200 ≡ true → (m.source ≡ own → ⊥) → for_us_by own m.destination m.sub_id ≡ true
-      → goal ≡ by_sort (refuse Refusal.NotUnderstood) replied lost (send [] own others) (inquiring d own others l (fault l q) q) (sorted q.sub q.version (15 + length q.body))
+      → goal ≡ plan_by (sorted q.sub q.version (15 + length q.body))
   for-us-plan u o h =
       from-other u o ∙ cond-false _ _ _ (ap not (same-for-us ∙ h))
-      ∙ sort_plan (refuse Refusal.NotUnderstood) replied lost (send [] own others) (inquiring d own others l (fault l q) q)
+      ∙ sort_plan replied lost (send [] own others) (inquiring d own others l (fault l q) q)
       (heard q.sub) (eqb q.version 0 || too_short q) (eqb q.sub 0x71) (eqb q.sub 0x7E)
 
   same-sort : sorted q.sub q.version (15 + length q.body) ≡ sorted m.sub_id m.version (length bs)
@@ -146,37 +151,35 @@ module _ (d : Identity) (own : ℕ) (others : List ℕ) (l : List Row) (draw : �
       ∙ ap (λ (n : ℕ). sorted m.sub_id n (15 + length q.body)) (sym w.version)
       ∙ ap (sorted m.sub_id m.version) (framed-length bs f).1
 
-  pub record For-us (s : Sorted) : Type 0 where
+  pub record For-us (s : Result Sorted Refusal) : Type 0 where
     pub usable : ltb m.source 268435200 ≡ true
     pub other : m.source ≡ own → ⊥
     pub ours : for_us_by own m.destination m.sub_id ≡ true
     pub sort : s ≡ sorted m.sub_id m.version (length bs)
 
-  sort-goal : (s : Sorted) → For-us s → goal ≡ by_sort (refuse Refusal.NotUnderstood) replied lost (send [] own others) (inquiring d own others l (fault l q) q) s
-  sort-goal s g =
-      for-us-plan g.usable g.other g.ours
-      ∙ ap (by_sort (refuse Refusal.NotUnderstood) replied lost (send [] own others) (inquiring d own others l (fault l q) q)) (same-sort ∙ sym g.sort)
+  sort-goal : (s : Result Sorted Refusal) → For-us s → goal ≡ plan_by s
+  sort-goal s g = for-us-plan g.usable g.other g.ours ∙ ap plan_by (same-sort ∙ sym g.sort)
 
-  pub not_understood : For-us NotUnderstood → refuse Refusal.NotUnderstood ≡ goal
+  pub sort_refused : (e : Refusal) → For-us (Err e) → refuse e ≡ goal
   unfolding by_sort
-  not_understood g = sym (sort-goal NotUnderstood g)
+  sort_refused e g = sym (sort-goal (Err e) g)
 
-  pub reply_noted : For-us Reply → send [] own (noted own m.source others) ≡ goal
+  pub reply_noted : For-us (Ok Reply) → send [] own (noted own m.source others) ≡ goal
   unfolding by_sort
-  reply_noted g = ap (λ (n : ℕ). send [] own (noted own n others)) w.source ∙ sym (sort-goal Reply g)
+  reply_noted g = ap (λ (n : ℕ). send [] own (noted own n others)) w.source ∙ sym (sort-goal (Ok Reply) g)
 
-  pub only_heard : For-us Heard → send [] own others ≡ goal
+  pub only_heard : For-us (Ok Heard) → send [] own others ≡ goal
   unfolding by_sort
-  only_heard g = sym (sort-goal Heard g)
+  only_heard g = sym (sort-goal (Ok Heard) g)
 
-  pub inquired : (x : Plan) → For-us Inquiry → x ≡ inquiring d own others l (fault l q) q → x ≡ goal
+  pub inquired : (x : Plan) → For-us (Ok Inquiry) → x ≡ inquiring d own others l (fault l q) q → x ≡ goal
   unfolding by_sort
-  inquired x g e = e ∙ sym (sort-goal Inquiry g)
+  inquired x g e = e ∙ sym (sort-goal (Ok Inquiry) g)
 
-  pub invalidated_number : (x : Plan) → For-us Invalidation
+  pub invalidated_number : (x : Plan) → For-us (Ok Invalidation)
       → (q.sub ≡ 0x7E → eqb q.version 0 ≡ false → too_short q ≡ false → x ≡ lost) → x ≡ goal
   unfolding by_sort
   invalidated_number x g e =
       let t = invalid_tests (heard q.sub) (eqb q.version 0 || too_short q) (eqb q.sub 0x71) (eqb q.sub 0x7E) (same-sort ∙ sym g.sort) in
       let p = or_parts (eqb q.version 0) (too_short q) t.1 in
-      e (eqb-true q.sub 0x7E t.0) p.0 p.1 ∙ sym (sort-goal Invalidation g)
+      e (eqb-true q.sub 0x7E t.0) p.0 p.1 ∙ sym (sort-goal (Ok Invalidation) g)

@@ -134,7 +134,7 @@ tallies_last [] z l = omega arith
 tallies_last (x ∷ xs) z l = let k = tallies_last xs z l in omega (arith, k)
 
 -- all of them fit an answer buffer
-pub replies_fit : (own to : ℕ) (l : List Row) → Sound l → length (bytes (map (λ a. profile_list own to a l) (having_row l places ++ 0x7F ∷ []))) ≤ 1024
+replies_fit : (own to : ℕ) (l : List Row) → Sound l → length (bytes (map (λ a. profile_list own to a l) (having_row l places ++ 0x7F ∷ []))) ≤ 1024
 replies_fit own to l s =
     let k = replies-long own to l s.ranges places 0x7F in
     let few = s.few in
@@ -188,6 +188,10 @@ pub replies_group : (own to : ℕ) (l : List Row) (k : ℕ) → k ≡ 16
     → replies_from own to l (drop k places) ≡ reply_there own to l 0x7E ++ (encode (profile_list own to 0x7F l) ++ [])
 replies_group own to l k e = ap (λ (n : ℕ). replies_from own to l (drop n places)) e ∙ replies_more own to l 0x7E []
 
+pub lists_fit : (own to : ℕ) (l : List Row) → Sound l → length (lists_bytes own to l 0x7F) ≤ 1024
+unfolding lists_bytes
+lists_fit own to l s = replies_fit own to l s
+
 pub every_list : (own to : ℕ) (l : List Row) → replies_from own to l places ≡ lists_bytes own to l 0x7F
 unfolding lists_bytes
 every_list own to l = refl
@@ -199,9 +203,9 @@ one_list own to l a h =
     ∙ ap (λ (b : Bool). bytes (map (λ c. profile_list own to c l) (cond b (having_row l places ++ 0x7F ∷ []) (a ∷ [])))) (sym h)
 
 -- a whole answer, put by its last reply
-pub last_reply : (own to : ℕ) (l : List Row) (before mid after : List ℕ) (at end : ℕ) → Left before 0 (replies_from own to l places) at mid (encode (profile_list own to 0x7F l) ++ [])
-    → 0 + length (replies_from own to l places) ≤ length before → Put mid at (encode (profile_list own to 0x7F l)) end after → Put before 0 (lists_bytes own to l 0x7F) end after
-last_reply own to l before mid after at end p room q = as_bytes (every_list own to l) (left-all room (left_more _ _ p q))
+pub last_reply : (own to : ℕ) (l : List Row) (before mid after : List ℕ) (from at end : ℕ) → Left before from (replies_from own to l places) at mid (encode (profile_list own to 0x7F l) ++ [])
+    → from + length (replies_from own to l places) ≤ length before → Put mid at (encode (profile_list own to 0x7F l)) end after → Put before from (lists_bytes own to l 0x7F) end after
+last_reply own to l before mid after from at end p room q = as_bytes (every_list own to l) (left-all room (left_more _ _ p q))
 
 -- an address without a row gets none
 pub none-there : (own to : ℕ) (l : List Row) (a : ℕ) (before : List ℕ) (at : ℕ) → has_row l a ≡ false → at + length (reply_there own to l a) ≤ length before

@@ -1,0 +1,9 @@
+use Rattle.std.proofs.Common.{sym}
+use Rattle.responder.proofs.Reports.{none-fell}
+use Rattle.responder.proofs.reporting.Reports.put_if_fallen.Goals as goal
+
+pub returns-then-not-has_fallen-clause-put : goal.returns-then-not-has_fallen-clause-put
+returns-then-not-has_fallen-clause-put c =
+    let me = c.args.self in
+    none-fell me.own.number me.named.address.byte me.named.id.bytes me.after.rows.now c.args.row c.args.pen.now.out.now c.args.pen.now.at
+    (sym c.if-not-has_fallen.ensures) c.requires.room
