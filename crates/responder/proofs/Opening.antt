@@ -129,57 +129,69 @@ module _ (d : Identity) (own : ℕ) (others : List ℕ) (l : List Row) (draw : �
   pub not_for_us : ltb m.source 268435200 ≡ true → (m.source ≡ own → ⊥) → for_us_by own m.destination m.sub_id ≡ false → refuse Refusal.NotForUs ≡ goal
   not_for_us u o h = sym (from-other u o ∙ cond-true _ _ _ (ap not (same-for-us ∙ h)))
 
-  abbrev replied : Plan
-  replied = send [] own (noted own q.source others)
+-- a message that was read, comes from another device and is for us
+pub record Ours (own : ℕ) (m : Message) (bs : List ℕ) : Type 0 where
+  pub whole : framed bs ≡ true
+  pub shows : Shows m (fields bs)
+  pub usable : ltb m.source 268435200 ≡ true
+  pub other : m.source ≡ own → ⊥
+  pub ours : for_us_by own m.destination m.sub_id ≡ true
+
+pub ours_read : (own : ℕ) (m : Message) (bs : List ℕ) → told (Ok m) ≡ reads bs → ShapedReading (told (Ok m)) → ltb m.source 268435200 ≡ true → (m.source ≡ own → ⊥)
+    → true ≡ for_us_by own m.destination m.sub_id → Ours own m bs
+ours_read own m bs e s u o f =
+    let r = read_shows m bs e s in
+    record { whole = r.0; shows = r.1; usable = u; other = o; ours = sym f }
+
+module _ (d : Identity) (own : ℕ) (others : List ℕ) (l : List Row) (draw : ℕ) (m : Message) (bs : List ℕ) (o : Ours own m bs) where
+  abbrev fs : Fields
+  fs = fields bs
 
   abbrev lost : Plan
-  lost = cond (eqb (target q) own) (send (discover d (renewed own others draw) ∷ []) (renewed own others draw) others) (send [] own (forgotten (target q) others))
+  lost = cond (eqb (target fs) own) (send (discover d (renewed own others draw) ∷ []) (renewed own others draw) others) (send [] own (forgotten (target fs) others))
 
   abbrev plan_by : Result Sorted Refusal → Plan
-  plan_by = by_sort replied lost (send [] own others) (inquiring d own others l (fault l q) q)
+  plan_by = by_sort (send [] own (noted own fs.source others)) lost (send [] own others) (inquiring d own others l (fault l fs) fs)
 
-  for-us-plan : ltb m.source 268435200 ≡ true → (m.source ≡ own → ⊥) → for_us_by own m.destination m.sub_id ≡ true
-      → goal ≡ plan_by (sorted q.sub q.version (15 + length q.body))
-  for-us-plan u o h =
-      from-other u o ∙ cond-false _ _ _ (ap not (same-for-us ∙ h))
-      ∙ sort_plan replied lost (send [] own others) (inquiring d own others l (fault l q) q)
-      (heard q.sub) (eqb q.version 0 || too_short q) (eqb q.sub 0x71) (eqb q.sub 0x7E)
+  abbrev ends : Plan
+  ends = cond (framed bs) (opened d own others l fs draw) (refuse Refusal.NotFramed)
 
-  same-sort : sorted q.sub q.version (15 + length q.body) ≡ sorted m.sub_id m.version (length bs)
+  for-us-plan : ends ≡ plan_by (sorted fs.sub fs.version (15 + length fs.body))
+  for-us-plan =
+      from-other d own others l draw m bs o.whole o.shows o.usable o.other
+      ∙ cond-false _ _ _ (ap not (same-for-us d own others l draw m bs o.whole o.shows ∙ o.ours))
+      ∙ sort_plan (send [] own (noted own fs.source others)) lost (send [] own others) (inquiring d own others l (fault l fs) fs)
+      (heard fs.sub) (eqb fs.version 0 || too_short fs) (eqb fs.sub 0x71) (eqb fs.sub 0x7E)
+
+  same-sort : sorted fs.sub fs.version (15 + length fs.body) ≡ sorted m.sub_id m.version (length bs)
   same-sort =
-      ap (λ (n : ℕ). sorted n q.version (15 + length q.body)) (sym w.sub)
-      ∙ ap (λ (n : ℕ). sorted m.sub_id n (15 + length q.body)) (sym w.version)
-      ∙ ap (sorted m.sub_id m.version) (framed-length bs f).1
+      ap (λ (n : ℕ). sorted n fs.version (15 + length fs.body)) (sym o.shows.sub)
+      ∙ ap (λ (n : ℕ). sorted m.sub_id n (15 + length fs.body)) (sym o.shows.version)
+      ∙ ap (sorted m.sub_id m.version) (framed-length bs o.whole).1
 
-  pub record For-us (s : Result Sorted Refusal) : Type 0 where
-    pub usable : ltb m.source 268435200 ≡ true
-    pub other : m.source ≡ own → ⊥
-    pub ours : for_us_by own m.destination m.sub_id ≡ true
-    pub sort : s ≡ sorted m.sub_id m.version (length bs)
+  ends-by : (s : Result Sorted Refusal) → s ≡ sorted m.sub_id m.version (length bs) → ends ≡ plan_by s
+  ends-by s e = for-us-plan ∙ ap plan_by (same-sort ∙ sym e)
 
-  sort-goal : (s : Result Sorted Refusal) → For-us s → goal ≡ plan_by s
-  sort-goal s g = for-us-plan g.usable g.other g.ours ∙ ap plan_by (same-sort ∙ sym g.sort)
-
-  pub sort_refused : (e : Refusal) → For-us (Err e) → refuse e ≡ goal
+  pub sort_refused : (e : Refusal) → Err e ≡ sorted m.sub_id m.version (length bs) → refuse e ≡ ends
   unfolding by_sort
-  sort_refused e g = sym (sort-goal (Err e) g)
+  sort_refused e h = sym (ends-by (Err e) h)
 
-  pub reply_noted : For-us (Ok Reply) → send [] own (noted own m.source others) ≡ goal
+  pub reply_noted : Ok Reply ≡ sorted m.sub_id m.version (length bs) → send [] own (noted own m.source others) ≡ ends
   unfolding by_sort
-  reply_noted g = ap (λ (n : ℕ). send [] own (noted own n others)) w.source ∙ sym (sort-goal (Ok Reply) g)
+  reply_noted h = ap (λ (n : ℕ). send [] own (noted own n others)) o.shows.source ∙ sym (ends-by (Ok Reply) h)
 
-  pub only_heard : For-us (Ok Heard) → send [] own others ≡ goal
+  pub only_heard : Ok Heard ≡ sorted m.sub_id m.version (length bs) → send [] own others ≡ ends
   unfolding by_sort
-  only_heard g = sym (sort-goal (Ok Heard) g)
+  only_heard h = sym (ends-by (Ok Heard) h)
 
-  pub inquired : (x : Plan) → For-us (Ok Inquiry) → x ≡ inquiring d own others l (fault l q) q → x ≡ goal
+  pub inquired : (x : Plan) → Ok Inquiry ≡ sorted m.sub_id m.version (length bs) → x ≡ inquiring d own others l (fault l fs) fs → x ≡ ends
   unfolding by_sort
-  inquired x g e = e ∙ sym (sort-goal (Ok Inquiry) g)
+  inquired x h e = e ∙ sym (ends-by (Ok Inquiry) h)
 
-  pub invalidated_number : (x : Plan) → For-us (Ok Invalidation)
-      → (q.sub ≡ 0x7E → eqb q.version 0 ≡ false → too_short q ≡ false → x ≡ lost) → x ≡ goal
+  pub invalidated_number : (x : Plan) → Ok Invalidation ≡ sorted m.sub_id m.version (length bs)
+      → (fs.sub ≡ 0x7E → eqb fs.version 0 ≡ false → too_short fs ≡ false → x ≡ lost) → x ≡ ends
   unfolding by_sort
-  invalidated_number x g e =
-      let t = invalid_tests (heard q.sub) (eqb q.version 0 || too_short q) (eqb q.sub 0x71) (eqb q.sub 0x7E) (same-sort ∙ sym g.sort) in
-      let p = or_parts (eqb q.version 0) (too_short q) t.1 in
-      e (eqb-true q.sub 0x7E t.0) p.0 p.1 ∙ sym (sort-goal (Ok Invalidation) g)
+  invalidated_number x h e =
+      let t = invalid_tests (heard fs.sub) (eqb fs.version 0 || too_short fs) (eqb fs.sub 0x71) (eqb fs.sub 0x7E) (same-sort ∙ sym h) in
+      let p = or_parts (eqb fs.version 0) (too_short fs) t.1 in
+      e (eqb-true fs.sub 0x7E t.0) p.0 p.1 ∙ sym (ends-by (Ok Invalidation) h)

@@ -1,5 +1,5 @@
 -- What is written to the answer buffer is what is sent.
-use Rattle.std.proofs.Common.{◌≡◌, ℕ, ◌+◌, ◌≤◌, Bool, true, false, List, [], ◌∷◌, ◌++◌, length, take, drop, Ok, Err, Result, sym, refl, ap, ◌∙◌, subst, zero-add, arith}
+use Rattle.std.proofs.Common.{◌≡◌, ℕ, ◌+◌, ◌≤◌, Bool, true, false, List, [], ◌∷◌, ◌++◌, length, take, drop, Ok, Result, sym, refl, ap, ◌∙◌, subst, zero-add, arith}
 use Rattle.std.specs.Result.{result_unwrap_or}
 use Rattle.std.specs.Array.{IsFirstChunk}
 use Rattle.std.proofs.lemmas.List.{take_at, drop_at, length-append, append-nil, take-append-le, drop-append-le, take-append-drop}
@@ -107,8 +107,7 @@ pub in_front : {S : Type 0} (listing : S → List Row) (consents : S → Consent
     → (Done listing consents fixed keeps plan s (outcome (Ok n) (part' ++ drop 1024 before)) s') × Rest (Ok n) before (part' ++ drop 1024 before)
 in_front listing consents fixed keeps plan s s' n before part part' f keep d r =
     let e = front_kept before part f in
-    let long : length part' ≡ length part = omega (arith, keep, ap length e, length-append part' (drop 1024 before), length-append part (drop 1024 before)) in
-    (
+    let long : length part' ≡ length part = omega (arith, keep, ap length e, length-append part' (drop 1024 before), length-append part (drop 1024 before)) in (
       subst (λ (o : Outcome). Done listing consents fixed keeps plan s o s') (front_says n part' (drop 1024 before) (omega (arith, r.0, long))) d,
       subst (λ (xs : List ℕ). Rest (Ok n) xs (part' ++ drop 1024 before)) e (front_rest n part part' (drop 1024 before) long r),
     )

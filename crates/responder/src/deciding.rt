@@ -17,7 +17,7 @@ use message::{
     Address, Content, Message, Muid, NakStatus, Refusal, least_length, muid_number, read,
 };
 
-/// Whether a message is heard, and then which, or is an inquiry. One that is heard may be of version 0 or too short.
+/// Whether a message is heard, and then which, or is an inquiry. One that is heard is refused if of version 0 or too short.
 fn sort(sub: u8, version: u8, bytes: usize) -> Result<Sorted, Refusal>
     requires { 15 ≤ bytes }
     ensures { result ≡ sorted sub version bytes }
@@ -26,12 +26,10 @@ fn sort(sub: u8, version: u8, bytes: usize) -> Result<Sorted, Refusal>
         0x71 if version > 0 && bytes >= least_length(sub, version) => Ok(Sorted::Reply),
         0x7E if version > 0 && bytes >= 19 => Ok(Sorted::Invalidation),
         0x71 | 0x7E => Err(Refusal::NotUnderstood),
-        0x21 | 0x24..=0x27 | 0x29 | 0x2F | 0x31 | 0x35 | 0x37 | 0x39 | 0x3F if version > 0 =>
-            Ok(Sorted::Heard),
-        0x41 | 0x43 | 0x44 | 0x73 | 0x7D..=0x7F if version > 0 => Ok(Sorted::Heard),
-        0x21 | 0x24..=0x27 | 0x29 | 0x2F | 0x31 | 0x35 | 0x37 | 0x39 | 0x3F =>
-            Err(Refusal::NotUnderstood),
-        0x41 | 0x43 | 0x44 | 0x73 | 0x7D..=0x7F => Err(Refusal::NotUnderstood),
+        0x21 | 0x24..=0x27 | 0x29 | 0x2F | 0x31 | 0x35 | 0x37 if version > 0 => Ok(Sorted::Heard),
+        0x39 | 0x3F | 0x41 | 0x43 | 0x44 | 0x73 | 0x7D..=0x7F if version > 0 => Ok(Sorted::Heard),
+        0x21 | 0x24..=0x27 | 0x29 | 0x2F | 0x31 | 0x35 | 0x37 => Err(Refusal::NotUnderstood),
+        0x39 | 0x3F | 0x41 | 0x43 | 0x44 | 0x73 | 0x7D..=0x7F => Err(Refusal::NotUnderstood),
         _ => Ok(Sorted::Inquiry),
     }
 }

@@ -27,8 +27,8 @@ impl Replies<'_> {
     {
         let out = &mut *pen.out;
         let rows = self.listing.rows;
-        pen.at = write_profile_reply(rows, address, self.own, self.to, out, pen.at)
-            .unwrap_or(pen.at);
+        let end = write_profile_reply(rows, address, self.own, self.to, out, pen.at);
+        pen.at = end.unwrap_or(pen.at);
     }
 
     /// Puts the reply at an address if it has a row.

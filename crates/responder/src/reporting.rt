@@ -63,7 +63,8 @@ impl Reports<'_, '_> {
     {
         let mut pen = Pen { out: answer, at: 0 };
         self.put_fallen(&mut pen);
-        let on = self.after.is_on(self.named.address.byte, self.named.id.bytes);
+        let Named { address, id } = self.named;
+        let on = self.after.is_on(address.byte, id.bytes);
         send(self.named.report(on), self.own, &mut pen);
         pen.at
     }

@@ -1,10 +1,9 @@
-use Rattle.std.proofs.Common.{◌≡◌, true, ltb, Ok, Err, sym, ap, ◌∙◌, arith}
+use Rattle.std.proofs.Common.{Ok, sym, ap, ◌∙◌}
 use Rattle.std.proofs.lemmas.Result.{err_from_is_err_and}
 use Rattle.message.specs.Messages.{fields}
 use Rattle.responder.specs.Plans.{opened, refuse}
 use Rattle.responder.specs.Actions.{decided}
-use Rattle.responder.specs.declared.action.Sorted.{Sorted}
-use Rattle.responder.proofs.Opening.{read_shows, read_refused, framed-length, source_refused, from_own, not_for_us, For-us, sort_refused, reply_noted, only_heard, inquired, invalidated_number}
+use Rattle.responder.proofs.Opening.{read_shows, read_refused, source_refused, from_own, not_for_us, ours_read, sort_refused, reply_noted, only_heard, inquired, invalidated_number}
 use Rattle.responder.proofs.deciding.decide.Goals as goal
 
 pub returns-in_err-m : goal.returns-in_err-m
@@ -38,40 +37,30 @@ pub returns-in_err-sort : goal.returns-in_err-sort
 returns-in_err-sort c =
     λ d others draw.
     let p = err_from_is_err_and c.from_residual-in_err-sort.result c.from_residual-in_err-sort.ensures.1 in
-    let r = read_shows c.in_ok-m.m c.args.message.now c.in_ok-m.ensures.value c.in_ok-m.ensures.shape in
-    let g : For-us d c.args.own others c.args.listing.rows.now draw c.in_ok-m.m c.args.message.now r.0 r.1 (Err c.in_err-sort.field-0.0) =
-    record { usable = c.in_ok-to.ensures.1; other = c.if-m-own.false; ours = sym c.if-not-is_for_us.ensures; sort = c.in_err-sort.ensures } in
+    let o = ours_read c.args.own c.in_ok-m.m c.args.message.now c.in_ok-m.ensures.value c.in_ok-m.ensures.shape c.in_ok-to.ensures.1 c.if-m-own.false c.if-not-is_for_us.ensures in
     ap (decided d c.args.own others c.args.listing.rows.now draw) p.1 ∙ ap refuse p.2
-    ∙ sort_refused d c.args.own others c.args.listing.rows.now draw c.in_ok-m.m c.args.message.now r.0 r.1 c.in_err-sort.field-0.0 g
+    ∙ sort_refused d c.args.own others c.args.listing.rows.now draw c.in_ok-m.m c.args.message.now o c.in_err-sort.field-0.0 c.in_err-sort.ensures
 
 pub returns-in-Reply : goal.returns-in-Reply
 returns-in-Reply c =
     λ d others draw.
-    let r = read_shows c.in_ok-m.m c.args.message.now c.in_ok-m.ensures.value c.in_ok-m.ensures.shape in
-    let g : For-us d c.args.own others c.args.listing.rows.now draw c.in_ok-m.m c.args.message.now r.0 r.1 (Ok Sorted.Reply) =
-    record { usable = c.in_ok-to.ensures.1; other = c.if-m-own.false; ours = sym c.if-not-is_for_us.ensures; sort = ap Ok (sym c.in-Reply.is) ∙ c.in_ok-sort.ensures } in
-    reply_noted d c.args.own others c.args.listing.rows.now draw c.in_ok-m.m c.args.message.now r.0 r.1 g
+    let o = ours_read c.args.own c.in_ok-m.m c.args.message.now c.in_ok-m.ensures.value c.in_ok-m.ensures.shape c.in_ok-to.ensures.1 c.if-m-own.false c.if-not-is_for_us.ensures in
+    reply_noted d c.args.own others c.args.listing.rows.now draw c.in_ok-m.m c.args.message.now o (ap Ok (sym c.in-Reply.is) ∙ c.in_ok-sort.ensures)
 
 pub returns-in-Heard : goal.returns-in-Heard
 returns-in-Heard c =
     λ d others draw.
-    let r = read_shows c.in_ok-m.m c.args.message.now c.in_ok-m.ensures.value c.in_ok-m.ensures.shape in
-    let g : For-us d c.args.own others c.args.listing.rows.now draw c.in_ok-m.m c.args.message.now r.0 r.1 (Ok Sorted.Heard) =
-    record { usable = c.in_ok-to.ensures.1; other = c.if-m-own.false; ours = sym c.if-not-is_for_us.ensures; sort = ap Ok (sym c.in-Heard.is) ∙ c.in_ok-sort.ensures } in
-    only_heard d c.args.own others c.args.listing.rows.now draw c.in_ok-m.m c.args.message.now r.0 r.1 g
+    let o = ours_read c.args.own c.in_ok-m.m c.args.message.now c.in_ok-m.ensures.value c.in_ok-m.ensures.shape c.in_ok-to.ensures.1 c.if-m-own.false c.if-not-is_for_us.ensures in
+    only_heard d c.args.own others c.args.listing.rows.now draw c.in_ok-m.m c.args.message.now o (ap Ok (sym c.in-Heard.is) ∙ c.in_ok-sort.ensures)
 
 pub returns-in-Invalidation : goal.returns-in-Invalidation
 returns-in-Invalidation c =
     λ d others draw.
-    let r = read_shows c.in_ok-m.m c.args.message.now c.in_ok-m.ensures.value c.in_ok-m.ensures.shape in
-    let g : For-us d c.args.own others c.args.listing.rows.now draw c.in_ok-m.m c.args.message.now r.0 r.1 (Ok Sorted.Invalidation) =
-    record { usable = c.in_ok-to.ensures.1; other = c.if-m-own.false; ours = sym c.if-not-is_for_us.ensures; sort = ap Ok (sym c.in-Invalidation.is) ∙ c.in_ok-sort.ensures } in
-    invalidated_number d c.args.own others c.args.listing.rows.now draw c.in_ok-m.m c.args.message.now r.0 r.1 _ g (λ a b e. c.invalidated.ensures d others c.args.listing.rows.now draw (fields c.args.message.now) r.1 a b e)
+    let o = ours_read c.args.own c.in_ok-m.m c.args.message.now c.in_ok-m.ensures.value c.in_ok-m.ensures.shape c.in_ok-to.ensures.1 c.if-m-own.false c.if-not-is_for_us.ensures in
+    invalidated_number d c.args.own others c.args.listing.rows.now draw c.in_ok-m.m c.args.message.now o _ (ap Ok (sym c.in-Invalidation.is) ∙ c.in_ok-sort.ensures) (c.invalidated.ensures d others c.args.listing.rows.now draw (fields c.args.message.now) o.shows)
 
 pub returns-in-Inquiry : goal.returns-in-Inquiry
 returns-in-Inquiry c =
     λ d others draw.
-    let r = read_shows c.in_ok-m.m c.args.message.now c.in_ok-m.ensures.value c.in_ok-m.ensures.shape in
-    let g : For-us d c.args.own others c.args.listing.rows.now draw c.in_ok-m.m c.args.message.now r.0 r.1 (Ok Sorted.Inquiry) =
-    record { usable = c.in_ok-to.ensures.1; other = c.if-m-own.false; ours = sym c.if-not-is_for_us.ensures; sort = ap Ok (sym c.in-Inquiry.is) ∙ c.in_ok-sort.ensures } in
-    inquired d c.args.own others c.args.listing.rows.now draw c.in_ok-m.m c.args.message.now r.0 r.1 _ g (c.decide.ensures d c.args.own others draw (fields c.args.message.now) r.1)
+    let o = ours_read c.args.own c.in_ok-m.m c.args.message.now c.in_ok-m.ensures.value c.in_ok-m.ensures.shape c.in_ok-to.ensures.1 c.if-m-own.false c.if-not-is_for_us.ensures in
+    inquired d c.args.own others c.args.listing.rows.now draw c.in_ok-m.m c.args.message.now o _ (ap Ok (sym c.in-Inquiry.is) ∙ c.in_ok-sort.ensures) (c.decide.ensures d c.args.own others draw (fields c.args.message.now) o.shows)

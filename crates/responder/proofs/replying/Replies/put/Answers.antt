@@ -8,5 +8,5 @@ pub returns-clause-put : goal.returns-clause-put
 returns-clause-put c =
     let me = c.args.self in
     put_or (encode (profile_list me.own.number me.to.number c.args.address.byte me.listing.rows.now)) c.args.pen.now.out.now c.args.pen.now.at
-    c.unwrap_or-pen.result c.write_profile_reply.result c.write_profile_reply.new.out
-    (reply_short me.own.number me.to.number c.args.address.byte me.listing.rows.now me.listing.sound) c.requires c.write_profile_reply.ensures c.unwrap_or-pen.ensures
+    c.unwrap_or-pen.result c.write_profile_reply-end.result c.write_profile_reply-end.new.out
+    (reply_short me.own.number me.to.number c.args.address.byte me.listing.rows.now me.listing.sound) c.requires c.write_profile_reply-end.ensures c.unwrap_or-pen.ensures

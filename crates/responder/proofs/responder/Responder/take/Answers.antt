@@ -16,6 +16,7 @@ returns-in_err-action g c =
     let k = front_kept c.args.answer.now c.in-Some.room.now c.in-Some.ensures.cases in
     let r = refused_by g.P.Host.listing g.P.Host.consents g.P.Host.fixed g.P.Host.keeps _ (state_of me) c.in_err-action.field-0.0 p.0 c.from_residual.result c.args.answer.now _ e p.1 p.2 k in
     record { does = r.0; rest = r.1; same = refl }
+
 pub returns : goal.returns
 returns g c =
     let me = c.args.self.now in
