@@ -88,8 +88,8 @@ put_or bs before at end r after few room w e =
     rw n a.1
 
 -- the front of a buffer and the rest are the buffer
-pub front_kept : (before part : List ℕ) → IsFirstChunk before part 1024 → part ++ drop 1024 before ≡ before
-front_kept before part f = ap (λ (xs : List ℕ). xs ++ drop 1024 before) f.same ∙ take-append-drop 1024 before
+pub front_kept : (N : ℕ) (before part : List ℕ) → IsFirstChunk before part N → part ++ drop N before ≡ before
+front_kept N before part f = ap (λ (xs : List ℕ). xs ++ drop N before) f.same ∙ take-append-drop N before
 
 -- what is sent from the front of a buffer is sent from the buffer
 pub front_says : (n : ℕ) (part' rest : List ℕ) → n ≤ length part' → outcome (Ok n) part' ≡ outcome (Ok n) (part' ++ rest)
@@ -101,13 +101,13 @@ front_rest n part part' rest e (h, k) = (
   drop-append-le n part' rest (omega (arith, h, e)) ∙ ap (λ (xs : List ℕ). xs ++ rest) k ∙ sym (drop-append-le n part rest h),
 )
 
-pub in_front : {S : Type 0} (listing : S → List Row) (consents : S → Consents) (fixed : S → Bool) (keeps : S → S → Type 0) (plan : Plan) (s s' : State S) (n : ℕ)
-    (before part part' : List ℕ) → IsFirstChunk before part 1024 → length (part' ++ drop 1024 before) ≡ length before → Done listing consents fixed keeps plan s (outcome (Ok n) part') s'
+pub in_front : {S : Type 0} (listing : S → List Row) (consents : S → Consents) (fixed : S → Bool) (keeps : S → S → Type 0) (plan : Plan) (s s' : State S) (n N : ℕ)
+    (before part part' : List ℕ) → IsFirstChunk before part N → length (part' ++ drop N before) ≡ length before → Done listing consents fixed keeps plan s (outcome (Ok n) part') s'
     → Rest (Ok n) part part'
-    → (Done listing consents fixed keeps plan s (outcome (Ok n) (part' ++ drop 1024 before)) s') × Rest (Ok n) before (part' ++ drop 1024 before)
-in_front listing consents fixed keeps plan s s' n before part part' f keep d r =
-    let e = front_kept before part f in
-    let long : length part' ≡ length part = omega (arith, keep, ap length e, length-append part' (drop 1024 before), length-append part (drop 1024 before)) in (
-      subst (λ (o : Outcome). Done listing consents fixed keeps plan s o s') (front_says n part' (drop 1024 before) (omega (arith, r.0, long))) d,
-      subst (λ (xs : List ℕ). Rest (Ok n) xs (part' ++ drop 1024 before)) e (front_rest n part part' (drop 1024 before) long r),
+    → (Done listing consents fixed keeps plan s (outcome (Ok n) (part' ++ drop N before)) s') × Rest (Ok n) before (part' ++ drop N before)
+in_front listing consents fixed keeps plan s s' n N before part part' f keep d r =
+    let e = front_kept N before part f in
+    let long : length part' ≡ length part = omega (arith, keep, ap length e, length-append part' (drop N before), length-append part (drop N before)) in (
+      subst (λ (o : Outcome). Done listing consents fixed keeps plan s o s') (front_says n part' (drop N before) (omega (arith, r.0, long))) d,
+      subst (λ (xs : List ℕ). Rest (Ok n) xs (part' ++ drop N before)) e (front_rest n part part' (drop N before) long r),
     )

@@ -75,11 +75,11 @@ pub acted : {S : Type 0} (listing : S → List Row) (consents : S → Consents) 
 acted listing consents fixed keeps x plan s s' o e h = subst (λ (y : Plan). Done listing consents fixed keeps y s o s') e h
 
 -- what announces a device
-pub announced : {S : Type 0} (listing : S → List Row) (consents : S → Consents) (fixed : S → Bool) (keeps : S → S → Type 0) (d : Identity) (own' : ℕ) (l : List Row) (s : State S) (n : ℕ)
-    (before part part' : List ℕ) → own' ≡ s.own → IsFirstChunk before part 1024 → length (part' ++ drop 1024 before) ≡ length before → Sends (bytes (discover d own' ∷ [])) part (Ok n) part'
-    → (Done listing consents fixed keeps (announcing d s.own s.others l (length before)) s (outcome (Ok n) (part' ++ drop 1024 before)) s) × Rest (Ok n) before (part' ++ drop 1024 before)
-announced listing consents fixed keeps d own' l s n before part part' p f keep w =
-    in_front listing consents fixed keeps (announcing d s.own s.others l (length before)) s s n before part part' f keep
+pub announced : {S : Type 0} (listing : S → List Row) (consents : S → Consents) (fixed : S → Bool) (keeps : S → S → Type 0) (d : Identity) (own' : ℕ) (l : List Row) (s : State S) (n N : ℕ)
+    (before part part' : List ℕ) → own' ≡ s.own → 1024 ≤ length before → IsFirstChunk before part N → length (part' ++ drop N before) ≡ length before → Sends (bytes (discover d own' ∷ [])) part (Ok n) part'
+    → (Done listing consents fixed keeps (announcing d s.own s.others l (length before)) s (outcome (Ok n) (part' ++ drop N before)) s) × Rest (Ok n) before (part' ++ drop N before)
+announced listing consents fixed keeps d own' l s n N before part part' p room f keep w =
+    in_front listing consents fixed keeps (announcing d s.own s.others l (length before)) s s n N before part part' f keep
     (done_send listing consents fixed keeps (announcing d s.own s.others l (length before)) (discover d s.own ∷ []) s.own s.others s s part (Ok n) part'
-    (cond-false _ _ _ (le-ltb (length before) 1024 f.enough)) (subst (λ (k : ℕ). Sends (bytes (discover d k ∷ [])) part (Ok n) part') p w) refl)
+    (cond-false _ _ _ (le-ltb (length before) 1024 room)) (subst (λ (k : ℕ). Sends (bytes (discover d k ∷ [])) part (Ok n) part') p w) refl)
     w.rest

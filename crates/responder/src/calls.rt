@@ -62,6 +62,7 @@ impl<P: Host> Responder<P> {
     {
         let own = self.own();
         let listed = Listing::of(&self.host);
+        // a copy in fixed memory, with its length beside it, since the host's rows change
         let count = listed.rows.len();
         let copy = listed.copy();
         let _ = self.host.switch(named.address.byte, named.id.bytes, on);

@@ -26,7 +26,7 @@ impl<'a> Listing<'a> {
     pub fn has_row(self, address: u8) -> bool
         ensures { result ≡ has_row self.entry.rows.now address }
     {
-        // by an index, as all that a reply tells of rows
+        // by an index, as replies go over rows
         for k in 0..self.rows.len() {
             if address == self.rows[k].address {
                 return true;
@@ -50,7 +50,7 @@ impl<'a> Listing<'a> {
         Named::new(address, id)
     }
 
-    /// A copy of the rows, and of nothing past them.
+    /// A copy of the rows in a place for the most that a listing has, and nothing of them past their end.
     pub fn copy(self) -> [Row; 64]
         ensures { take (length self.entry.rows.now) result ≡ self.entry.rows.now }
     {
