@@ -3,6 +3,7 @@ ghost use Rattle.std.specs.Prelude.{◌≡◌, ℕ, ◌+◌, ◌≤◌, List, le
 ghost use Rattle.message.specs.Messages.{encode};
 ghost use Rattle.message.specs.Sending.{profile_list};
 ghost use Rattle.message.specs.Writing.{Put};
+ghost use Rattle.responder.specs.Pens.{Puts, Room};
 ghost use Rattle.responder.specs.Steps.{lists_bytes, reply_there};
 
 use crate::calls::ROOM;
@@ -21,9 +22,8 @@ pub(crate) struct Replies<'a> {
 impl Replies<'_> {
     /// Puts the reply at an address where there is room for it.
     fn put(self, address: Address, pen: &mut Pen<'_>)
-        requires { pen.old.at + length (encode (profile_list self.own.number self.to.number address.byte self.listing.rows.now)) ≤ length pen.old.out.now }
-        ensures put { Put pen.old.out.now pen.old.at (encode (profile_list self.entry.own.number self.entry.to.number address.byte self.entry.listing.rows.now)) pen.new.at pen.new.out.now }
-        ensures same { pen.new.out.ghost_name ≡ pen.old.out.ghost_name }
+        requires { Room (encode (profile_list self.own.number self.to.number address.byte self.listing.rows.now)) pen.old }
+        ensures { Puts (encode (profile_list self.entry.own.number self.entry.to.number address.byte self.entry.listing.rows.now)) pen.old pen.new }
     {
         let out = &mut *pen.out;
         let rows = self.listing.rows;
@@ -33,9 +33,8 @@ impl Replies<'_> {
 
     /// Puts the reply at an address if it has a row.
     fn put_if_any(self, address: Address, pen: &mut Pen<'_>)
-        requires { pen.old.at + length (reply_there self.own.number self.to.number self.listing.rows.now address.byte) ≤ length pen.old.out.now }
-        ensures put { Put pen.old.out.now pen.old.at (reply_there self.entry.own.number self.entry.to.number self.entry.listing.rows.now address.byte) pen.new.at pen.new.out.now }
-        ensures same { pen.new.out.ghost_name ≡ pen.old.out.ghost_name }
+        requires { Room (reply_there self.own.number self.to.number self.listing.rows.now address.byte) pen.old }
+        ensures { Puts (reply_there self.entry.own.number self.entry.to.number self.entry.listing.rows.now address.byte) pen.old pen.new }
     {
         if self.listing.has_row(address.byte) {
             self.put(address, pen);
@@ -44,9 +43,8 @@ impl Replies<'_> {
 
     /// Puts replies for each channel that has a row, rising, for the Group if it has one, and for the Function Block.
     fn put_every(self, pen: &mut Pen<'_>)
-        requires { pen.old.at + length (lists_bytes self.own.number self.to.number self.listing.rows.now 0x7F) ≤ length pen.old.out.now }
-        ensures put { Put pen.old.out.now pen.old.at (lists_bytes self.entry.own.number self.entry.to.number self.entry.listing.rows.now 0x7F) pen.new.at pen.new.out.now }
-        ensures same { pen.new.out.ghost_name ≡ pen.old.out.ghost_name }
+        requires { Room (lists_bytes self.own.number self.to.number self.listing.rows.now 0x7F) pen.old }
+        ensures { Puts (lists_bytes self.entry.own.number self.entry.to.number self.entry.listing.rows.now 0x7F) pen.old pen.new }
     {
         for channel in 0..16u8 {
             self.put_if_any(Address { byte: channel }, pen);

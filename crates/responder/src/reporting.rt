@@ -2,6 +2,7 @@
 ghost use Rattle.std.specs.Prelude.{◌≡◌, ℕ, ◌+◌, ◌≤◌, true, List, length};
 ghost use Rattle.message.specs.Rows.{ranged};
 ghost use Rattle.message.specs.Writing.{Put};
+ghost use Rattle.responder.specs.Pens.{Puts, Room};
 ghost use Rattle.responder.specs.Steps.{fall_there, falls, fell, put_off, reports_bytes};
 
 use crate::action::Named;
@@ -33,9 +34,8 @@ impl Reports<'_, '_> {
     /// Puts the Disabled Report of a row if it has fallen.
     fn put_if_fallen(self, row: Row, pen: &mut Pen<'_>)
         requires ranges { ranged row.address row.id ≡ true }
-        requires room { pen.old.at + length (fall_there self.own.number self.named.address.byte self.named.id.bytes self.after.rows.now row) ≤ length pen.old.out.now }
-        ensures put { Put pen.old.out.now pen.old.at (fall_there self.entry.own.number self.entry.named.address.byte self.entry.named.id.bytes self.entry.after.rows.now row) pen.new.at pen.new.out.now }
-        ensures same { pen.new.out.ghost_name ≡ pen.old.out.ghost_name }
+        requires room { Room (fall_there self.own.number self.named.address.byte self.named.id.bytes self.after.rows.now row) pen.old }
+        ensures { Puts (fall_there self.entry.own.number self.entry.named.address.byte self.entry.named.id.bytes self.entry.after.rows.now row) pen.old pen.new }
     {
         if !self.has_fallen(row) {
             return;
@@ -48,9 +48,8 @@ impl Reports<'_, '_> {
 
     /// Puts a Disabled Report for each row that has fallen, in the listing's order.
     fn put_fallen(self, pen: &mut Pen<'_>)
-        requires { pen.old.at + length (falls self.own.number self.named.address.byte self.named.id.bytes self.after.rows.now self.before.rows.now) ≤ length pen.old.out.now }
-        ensures put { Put pen.old.out.now pen.old.at (falls self.entry.own.number self.entry.named.address.byte self.entry.named.id.bytes self.entry.after.rows.now self.entry.before.rows.now) pen.new.at pen.new.out.now }
-        ensures same { pen.new.out.ghost_name ≡ pen.old.out.ghost_name }
+        requires { Room (falls self.own.number self.named.address.byte self.named.id.bytes self.after.rows.now self.before.rows.now) pen.old }
+        ensures { Puts (falls self.entry.own.number self.entry.named.address.byte self.entry.named.id.bytes self.entry.after.rows.now self.entry.before.rows.now) pen.old pen.new }
     {
         for row in self.before.rows {
             self.put_if_fallen(*row, pen);

@@ -3,6 +3,7 @@ ghost use Rattle.std.specs.Prelude.{◌≡◌, ℕ, ◌+◌, ◌≤◌, List, []
 ghost use Rattle.message.specs.Messages.{encode};
 ghost use Rattle.message.specs.Sending.{discover, invalidate, meant};
 ghost use Rattle.message.specs.Writing.{Put};
+ghost use Rattle.responder.specs.Pens.{Puts, Room};
 ghost use Rattle.responder.specs.Steps.{bytes, Sends};
 
 use crate::calls::ROOM;
@@ -17,9 +18,8 @@ pub(crate) struct Pen<'a> {
 
 /// Puts a message of known length where there is room for it.
 pub(crate) fn send(sent: Sent, own: Muid, pen: &mut Pen<'_>)
-    requires { pen.old.at + length (encode (meant own.number sent)) ≤ length pen.old.out.now }
-    ensures put { Put pen.old.out.now pen.old.at (encode (meant own.number sent)) pen.new.at pen.new.out.now }
-    ensures same { pen.new.out.ghost_name ≡ pen.old.out.ghost_name }
+    requires { Room (encode (meant own.number sent)) pen.old }
+    ensures { Puts (encode (meant own.number sent)) pen.old pen.new }
 {
     let out = &mut *pen.out;
     pen.at = write(sent, own, out, pen.at).unwrap_or(pen.at);

@@ -52,13 +52,17 @@ put-requires c =
     let p = left_more _ _ (left_as refl refl e c.loop-channel.invariant.left) c.put_if_any-2.ensures.put in
     omega (arith, p.room, length-append (encode (profile_list own to 0x7F l)) [])
 
-pub returns-clause-put : goal.returns-clause-put
-returns-clause-put c =
+pub returns : goal.returns
+returns c =
     let own = c.args.self.own.number in
     let to = c.args.self.to.number in
     let l = c.args.self.listing.rows.now in
     let e = replies_group own to l c.loop-channel.channel (omega arith) in
     let p = left_more _ _ (left_as refl refl e c.loop-channel.invariant.left) c.put_if_any-2.ensures.put in
     let h = c.requires in
-    last_reply own to l c.args.pen.now.out.now c.put_if_any-2.new.pen.out.now c.put.new.pen.out.now c.args.pen.now.at c.put_if_any-2.new.pen.at c.put.new.pen.at p
-    (omega (arith, ap length (every_list own to l))) c.put.ensures.put
+    record {
+      put =
+          last_reply own to l c.args.pen.now.out.now c.put_if_any-2.new.pen.out.now c.put.new.pen.out.now c.args.pen.now.at c.put_if_any-2.new.pen.at c.put.new.pen.at p
+          (omega (arith, ap length (every_list own to l))) c.put.ensures.put;
+      same = c.put.ensures.same ∙ (c.put_if_any-2.ensures.same ∙ c.loop-channel.invariant.same);
+    }

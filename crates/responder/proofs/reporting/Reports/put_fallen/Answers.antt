@@ -18,8 +18,8 @@ loop-row-preserved c =
       same = c.put_if_fallen.ensures.same ∙ c.loop-row.invariant.same;
     }
 
-pub returns-clause-put : goal.returns-clause-put
-returns-clause-put c =
+pub returns : goal.returns
+returns c =
     let me = c.args.self in
     let e = at_drop_all (falls me.own.number me.named.address.byte me.named.id.bytes me.after.rows.now) me.before.rows.now c.loop-row.row-index (omega arith) in
-    left-all c.requires (left_as refl refl e c.loop-row.invariant.left)
+    record { put = left-all c.requires (left_as refl refl e c.loop-row.invariant.left); same = c.loop-row.invariant.same }
