@@ -12,7 +12,7 @@ use Rattle.message.proofs.Trips.{fives_kept, length-counted}
 use Rattle.host.specs.Rows.{tally, Sound}
 use Rattle.responder.specs.Plans.{has_row, having_row, replied_at, upto}
 use Rattle.message.specs.Writing.{Put, Left}
-use Rattle.message.proofs.Places.{left_more, left-all, as_bytes, put_by, written_none}
+use Rattle.message.proofs.Places.{left_more, left-all, left_as, as_bytes, put_by, written_none}
 use Rattle.responder.specs.Steps.{bytes, reply_there, lists_bytes, Sends}
 use Rattle.responder.proofs.Sendings.{put-sends}
 
@@ -179,14 +179,27 @@ replies_more own to l a xs = go (has_row l a)
     go true = refl
     go false = refl
 
-pub replies_step : (own to : ℕ) (l : List Row) (k : ℕ) → k < 16
+replies_step : (own to : ℕ) (l : List Row) (k : ℕ) → k < 16
     → replies_from own to l (drop k places) ≡ reply_there own to l k ++ replies_from own to l (drop (k + 1) places)
 replies_step own to l k h = ap (replies_from own to l) (places_from k h) ∙ replies_more own to l k (drop (k + 1) places)
 
 -- the Group, and then the Function Block
-pub replies_group : (own to : ℕ) (l : List Row) (k : ℕ) → k ≡ 16
+replies_group : (own to : ℕ) (l : List Row) (k : ℕ) → k ≡ 16
     → replies_from own to l (drop k places) ≡ reply_there own to l 0x7E ++ (encode (profile_list own to 0x7F l) ++ [])
 replies_group own to l k e = ap (λ (n : ℕ). replies_from own to l (drop n places)) e ∙ replies_more own to l 0x7E []
+
+-- a loop over the addresses, at the reply that is next
+pub at_channel : (own to : ℕ) (l : List Row) (k : ℕ) {b : List ℕ} {at : ℕ} {bs : List ℕ} {mid : ℕ} {is : List ℕ} → k < 16 → Left b at bs mid is (replies_from own to l (drop k places))
+    → Left b at bs mid is (reply_there own to l k ++ replies_from own to l (drop (k + 1) places))
+at_channel own to l k h p = left_as refl refl (replies_step own to l k h) p
+
+pub at_group : (own to : ℕ) (l : List Row) (k : ℕ) {b : List ℕ} {at : ℕ} {bs : List ℕ} {mid : ℕ} {is : List ℕ} → k ≡ 16 → Left b at bs mid is (replies_from own to l (drop k places))
+    → Left b at bs mid is (reply_there own to l 0x7E ++ (encode (profile_list own to 0x7F l) ++ []))
+at_group own to l k h p = left_as refl refl (replies_group own to l k h) p
+
+-- there is room for what is next
+pub left_room : {b : List ℕ} {at : ℕ} {bs : List ℕ} {mid : ℕ} {is : List ℕ} (xs ys : List ℕ) → Left b at bs mid is (xs ++ ys) → mid + length xs ≤ length is
+left_room xs ys p = omega (arith, p.room, length-append xs ys)
 
 pub lists_fit : (own to : ℕ) (l : List Row) → Sound l → length (lists_bytes own to l 0x7F) ≤ 1024
 unfolding lists_bytes

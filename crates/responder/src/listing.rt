@@ -50,7 +50,7 @@ impl<'a> Listing<'a> {
         Named::new(address, id)
     }
 
-    /// A copy of the rows in a place for the most that a listing has, and nothing of them past their end.
+    /// A copy of the rows, with room for the most that a listing has.
     pub fn copy(self) -> [Row; 64]
         ensures { take (length self.entry.rows.now) result ≡ self.entry.rows.now }
     {
