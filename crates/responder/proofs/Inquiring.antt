@@ -11,6 +11,7 @@ use Rattle.message.specs.declared.identity.Identity.{Identity}
 use Rattle.message.specs.declared.message.Message.{Message}
 use Rattle.message.specs.declared.message.Content.{Content}
 use Rattle.message.specs.declared.message.Content.TheVariants.{Discovery, DiscoveryReply, InvalidateMuid, ProfileInquiry, ProfileReply, SetOn, SetOff, Enabled, Disabled, Added, Removed, Nak, Other}
+use Rattle.message.specs.declared.address.Address.{Address}
 use Rattle.message.specs.declared.row.Row.{Row}
 use Rattle.message.specs.declared.sub_id.NakStatus.{NakStatus}
 use Rattle.numbers.specs.Device.{has, noted}
@@ -132,13 +133,16 @@ deny_same d own others l status m q to w e =
     rw (a, s, t, e)
 
 -- a message that passed the first checks, and what it holds
-pub record Passed (m : Message) (to address : ℕ) (l : List Row) : Type 0 where
+pub record Passed (m : Message) (address : ℕ) : Type 0 where
   pub version : m.version ≡ 0 → ⊥
   pub sub : has m.sub_id supported ≡ true
   pub address_is : address ≡ m.address
   pub known : is_address address ≡ true
 
-module _ (d : Identity) (own : ℕ) (others : List ℕ) (l : List Row) (m : Message) (to address : ℕ) (p : Passed m to address l) (q : Fields) (w : Shows m q) (e : to ≡ q.source) where
+pub passed : (m : Message) (a : Address) → (m.version ≡ 0 → ⊥) → true ≡ has m.sub_id supported → a.byte ≡ m.address → Passed m a.byte
+passed m a v s e = record { version = v; sub = sym s; address_is = e; known = a.known }
+
+module _ (d : Identity) (own : ℕ) (others : List ℕ) (l : List Row) (m : Message) (to address : ℕ) (p : Passed m address) (q : Fields) (w : Shows m q) (e : to ≡ q.source) where
   same_address : address ≡ q.address
   same_address = p.address_is ∙ w.address
 
@@ -177,20 +181,6 @@ module _ (d : Identity) (own : ℕ) (others : List ℕ) (l : List Row) (m : Mess
       → x ≡ inquiring d own others l (fault l q) q
   off_passed id x c h =
       switched id.now false x h ∙ ap (λ (k : Content). by_kind d own others l q (kind_of k)) (sym c) ∙ sym passed_comes
-
-  abbrev found_reply : (a version source : ℕ) → List ℕ → Plan → Plan
-  found_reply a version source body x =
-      cond (eqb a 0x7F) (send (discover_reply d own source (cond (leb version 1) 0x00 (get_or body 16 0)) ∷ []) own (noted own source others)) x
-
-  pub discovery_passed : (body : _) (x : Plan) → m.content ≡ Discovery body
-      → x ≡ found_reply m.address m.version to body.now (denying d own others l NakStatus.Malformed (header_of m to))
-      → x ≡ inquiring d own others l (fault l q) q
-  discovery_passed body x c h =
-      h ∙ ap (found_reply m.address m.version to body.now) (denied-same NakStatus.Malformed)
-      ∙ ap (λ (n : ℕ). found_reply n m.version to body.now (denying d own others l NakStatus.Malformed q)) w.address
-      ∙ ap (λ (n : ℕ). found_reply q.address n to body.now (denying d own others l NakStatus.Malformed q)) w.version
-      ∙ ap (λ (n : ℕ). found_reply q.address q.version n body.now (denying d own others l NakStatus.Malformed q)) e
-      ∙ ap (λ (k : Content). by_kind d own others l q (kind_of k)) (sym c) ∙ sym passed_comes
 
   pub other_passed : (x : Plan) → (m.content ≡ ProfileInquiry → ⊥) → ((id : _) → m.content ≡ SetOn id → ⊥) → ((id : _) → m.content ≡ SetOff id → ⊥)
       → ((body : _) → m.content ≡ Discovery body → ⊥) → x ≡ denying d own others l NakStatus.Malformed (header_of m to)

@@ -1,5 +1,5 @@
 -- What is decided of a framed message.
-use Rattle.std.proofs.Common.{◌≡◌, ℕ, ◌+◌, ◌-◌, ◌≤◌, Bool, true, false, cond, not, ◌&&◌, ◌||◌, eqb, ltb, List, [], ◌∷◌, length, drop, Ok, Err, sym, refl, ap, ◌∙◌, arith}
+use Rattle.std.proofs.Common.{◌≡◌, ℕ, ◌+◌, ◌-◌, ◌≤◌, Bool, true, false, cond, not, ◌&&◌, ◌||◌, eqb, ltb, List, [], ◌∷◌, length, drop, Ok, Err, Result, sym, refl, ap, ◌∙◌, arith}
 use Rattle.std.proofs.lemmas.List.{length-take, length-drop}
 use Rattle.std.proofs.lemmas.Bool.{and_parts, or_parts, cond-true, cond-false, eq-eqb, eqb-true, ne_eqb, leb-true}
 use Rattle.message.specs.Messages.{Fields, framed, fields}
@@ -16,7 +16,7 @@ use Rattle.responder.specs.Actions.{Shows, sorted}
 use Rattle.responder.specs.Inquiries.{heard, usable, clash, for_us, for_us_by, fault, target}
 use Rattle.responder.specs.Plans.{Plan, refuse, send, hearing, inquiring, opened}
 use Rattle.responder.specs.declared.action.Sorted.{Sorted}
-use Rattle.responder.specs.declared.action.Sorted.TheVariants.{NotUnderstood, Reply, Invalidation, Heard, Inquiry}
+use Rattle.responder.specs.declared.action.Sorted.TheVariants.{Reply, Invalidation, Heard, Inquiry}
 
 -- what was read shows the fields of the bytes, which are framed
 shows_go : (m : Message) (q : Fields) → message m.address m.sub_id m.version m.source m.destination (kind_of m.content) ≡ taken_apart q (kind q)
@@ -47,28 +47,30 @@ framed-length bs f =
     (long, omega (arith, long, length-take (length bs - 15) (drop 14 bs), length-drop 14 bs))
 
 -- the plan by how a message is sorted
-by_sort : (x p q r s : Plan) → Sorted → Plan
-by_sort x p q r s NotUnderstood = x
-by_sort x p q r s Reply = p
-by_sort x p q r s Invalidation = q
-by_sort x p q r s Heard = r
-by_sort x p q r s Inquiry = s
+by_sort : (p q r s : Plan) → Result Sorted Refusal → Plan
+by_sort p q r s (Err e) = refuse e
+by_sort p q r s (Ok Reply) = p
+by_sort p q r s (Ok Invalidation) = q
+by_sort p q r s (Ok Heard) = r
+by_sort p q r s (Ok Inquiry) = s
 
-sort_plan : (x p q r s : Plan) (h e a b : Bool)
-    → cond h (cond e x (cond a p (cond b q r))) s ≡ by_sort x p q r s (cond h (cond e NotUnderstood (cond a Reply (cond b Invalidation Heard))) Inquiry)
+sort_plan : (p q r s : Plan) (h e a b : Bool)
+    → cond h (cond e (refuse Refusal.NotUnderstood) (cond a p (cond b q r))) s
+    ≡ by_sort p q r s (cond h (cond e (Err Refusal.NotUnderstood) (cond a (Ok Reply) (cond b (Ok Invalidation) (Ok Heard)))) (Ok Inquiry))
 unfolding by_sort
-sort_plan x p q r s true true a b = refl
-sort_plan x p q r s true false true b = refl
-sort_plan x p q r s true false false true = refl
-sort_plan x p q r s true false false false = refl
-sort_plan x p q r s false e a b = refl
+sort_plan p q r s true true a b = refl
+sort_plan p q r s true false true b = refl
+sort_plan p q r s true false false true = refl
+sort_plan p q r s true false false false = refl
+sort_plan p q r s false e a b = refl
 
-invalid_tests : (h e a b : Bool) → cond h (cond e NotUnderstood (cond a Reply (cond b Invalidation Heard))) Inquiry ≡ Invalidation → (b ≡ true) × (e ≡ false)
-invalid_tests true true a b h = let z : ◌≡◌ {A = ℕ} 0 1 = cc in absurd (omega arith)
-invalid_tests true false true b h = let z : ◌≡◌ {A = ℕ} 0 1 = cc in absurd (omega arith)
+invalid_tests : (h e a b : Bool) → cond h (cond e (Err Refusal.NotUnderstood) (cond a (Ok Reply) (cond b (Ok Invalidation) (Ok Heard)))) (Ok Inquiry) ≡ Ok Invalidation
+    → (b ≡ true) × (e ≡ false)
+invalid_tests true true a b h = absurd (cc)
+invalid_tests true false true b h = absurd (cc)
 invalid_tests true false false true h = (refl, refl)
-invalid_tests true false false false h = let z : ◌≡◌ {A = ℕ} 0 1 = cc in absurd (omega arith)
-invalid_tests false e a b h = let z : ◌≡◌ {A = ℕ} 0 1 = cc in absurd (omega arith)
+invalid_tests true false false false h = absurd (cc)
+invalid_tests false e a b h = absurd (cc)
 
 module _ (d : Identity) (own : ℕ) (others : List ℕ) (l : List Row) (draw : ℕ) (m : Message) (bs : List ℕ) (f : framed bs ≡ true) (w : Shows m (fields bs)) where
   abbrev q : Fields
@@ -127,56 +129,69 @@ module _ (d : Identity) (own : ℕ) (others : List ℕ) (l : List Row) (draw : �
   pub not_for_us : ltb m.source 268435200 ≡ true → (m.source ≡ own → ⊥) → for_us_by own m.destination m.sub_id ≡ false → refuse Refusal.NotForUs ≡ goal
   not_for_us u o h = sym (from-other u o ∙ cond-true _ _ _ (ap not (same-for-us ∙ h)))
 
-  abbrev replied : Plan
-  replied = send [] own (noted own q.source others)
+-- a message that was read, comes from another device and is for us
+pub record Ours (own : ℕ) (m : Message) (bs : List ℕ) : Type 0 where
+  pub whole : framed bs ≡ true
+  pub shows : Shows m (fields bs)
+  pub usable : ltb m.source 268435200 ≡ true
+  pub other : m.source ≡ own → ⊥
+  pub ours : for_us_by own m.destination m.sub_id ≡ true
+
+pub ours_read : (own : ℕ) (m : Message) (bs : List ℕ) → told (Ok m) ≡ reads bs → ShapedReading (told (Ok m)) → ltb m.source 268435200 ≡ true → (m.source ≡ own → ⊥)
+    → true ≡ for_us_by own m.destination m.sub_id → Ours own m bs
+ours_read own m bs e s u o f =
+    let r = read_shows m bs e s in
+    record { whole = r.0; shows = r.1; usable = u; other = o; ours = sym f }
+
+module _ (d : Identity) (own : ℕ) (others : List ℕ) (l : List Row) (draw : ℕ) (m : Message) (bs : List ℕ) (o : Ours own m bs) where
+  abbrev fs : Fields
+  fs = fields bs
 
   abbrev lost : Plan
-  lost = cond (eqb (target q) own) (send (discover d (renewed own others draw) ∷ []) (renewed own others draw) others) (send [] own (forgotten (target q) others))
+  lost = cond (eqb (target fs) own) (send (discover d (renewed own others draw) ∷ []) (renewed own others draw) others) (send [] own (forgotten (target fs) others))
 
-  for-us-plan : ltb m.source 268435200 ≡ true → (m.source ≡ own → ⊥) → for_us_by own m.destination m.sub_id ≡ true
-      → goal ≡ by_sort (refuse Refusal.NotUnderstood) replied lost (send [] own others) (inquiring d own others l (fault l q) q) (sorted q.sub q.version (15 + length q.body))
-  for-us-plan u o h =
-      from-other u o ∙ cond-false _ _ _ (ap not (same-for-us ∙ h))
-      ∙ sort_plan (refuse Refusal.NotUnderstood) replied lost (send [] own others) (inquiring d own others l (fault l q) q)
-      (heard q.sub) (eqb q.version 0 || too_short q) (eqb q.sub 0x71) (eqb q.sub 0x7E)
+  abbrev plan_by : Result Sorted Refusal → Plan
+  plan_by = by_sort (send [] own (noted own fs.source others)) lost (send [] own others) (inquiring d own others l (fault l fs) fs)
 
-  same-sort : sorted q.sub q.version (15 + length q.body) ≡ sorted m.sub_id m.version (length bs)
+  abbrev ends : Plan
+  ends = cond (framed bs) (opened d own others l fs draw) (refuse Refusal.NotFramed)
+
+  for-us-plan : ends ≡ plan_by (sorted fs.sub fs.version (15 + length fs.body))
+  for-us-plan =
+      from-other d own others l draw m bs o.whole o.shows o.usable o.other
+      ∙ cond-false _ _ _ (ap not (same-for-us d own others l draw m bs o.whole o.shows ∙ o.ours))
+      ∙ sort_plan (send [] own (noted own fs.source others)) lost (send [] own others) (inquiring d own others l (fault l fs) fs)
+      (heard fs.sub) (eqb fs.version 0 || too_short fs) (eqb fs.sub 0x71) (eqb fs.sub 0x7E)
+
+  same-sort : sorted fs.sub fs.version (15 + length fs.body) ≡ sorted m.sub_id m.version (length bs)
   same-sort =
-      ap (λ (n : ℕ). sorted n q.version (15 + length q.body)) (sym w.sub)
-      ∙ ap (λ (n : ℕ). sorted m.sub_id n (15 + length q.body)) (sym w.version)
-      ∙ ap (sorted m.sub_id m.version) (framed-length bs f).1
+      ap (λ (n : ℕ). sorted n fs.version (15 + length fs.body)) (sym o.shows.sub)
+      ∙ ap (λ (n : ℕ). sorted m.sub_id n (15 + length fs.body)) (sym o.shows.version)
+      ∙ ap (sorted m.sub_id m.version) (framed-length bs o.whole).1
 
-  pub record For-us (s : Sorted) : Type 0 where
-    pub usable : ltb m.source 268435200 ≡ true
-    pub other : m.source ≡ own → ⊥
-    pub ours : for_us_by own m.destination m.sub_id ≡ true
-    pub sort : s ≡ sorted m.sub_id m.version (length bs)
+  ends-by : (s : Result Sorted Refusal) → s ≡ sorted m.sub_id m.version (length bs) → ends ≡ plan_by s
+  ends-by s e = for-us-plan ∙ ap plan_by (same-sort ∙ sym e)
 
-  sort-goal : (s : Sorted) → For-us s → goal ≡ by_sort (refuse Refusal.NotUnderstood) replied lost (send [] own others) (inquiring d own others l (fault l q) q) s
-  sort-goal s g =
-      for-us-plan g.usable g.other g.ours
-      ∙ ap (by_sort (refuse Refusal.NotUnderstood) replied lost (send [] own others) (inquiring d own others l (fault l q) q)) (same-sort ∙ sym g.sort)
-
-  pub not_understood : For-us NotUnderstood → refuse Refusal.NotUnderstood ≡ goal
+  pub sort_refused : (e : Refusal) → Err e ≡ sorted m.sub_id m.version (length bs) → refuse e ≡ ends
   unfolding by_sort
-  not_understood g = sym (sort-goal NotUnderstood g)
+  sort_refused e h = sym (ends-by (Err e) h)
 
-  pub reply_noted : For-us Reply → send [] own (noted own m.source others) ≡ goal
+  pub reply_noted : Ok Reply ≡ sorted m.sub_id m.version (length bs) → send [] own (noted own m.source others) ≡ ends
   unfolding by_sort
-  reply_noted g = ap (λ (n : ℕ). send [] own (noted own n others)) w.source ∙ sym (sort-goal Reply g)
+  reply_noted h = ap (λ (n : ℕ). send [] own (noted own n others)) o.shows.source ∙ sym (ends-by (Ok Reply) h)
 
-  pub only_heard : For-us Heard → send [] own others ≡ goal
+  pub only_heard : Ok Heard ≡ sorted m.sub_id m.version (length bs) → send [] own others ≡ ends
   unfolding by_sort
-  only_heard g = sym (sort-goal Heard g)
+  only_heard h = sym (ends-by (Ok Heard) h)
 
-  pub inquired : (x : Plan) → For-us Inquiry → x ≡ inquiring d own others l (fault l q) q → x ≡ goal
+  pub inquired : (x : Plan) → Ok Inquiry ≡ sorted m.sub_id m.version (length bs) → x ≡ inquiring d own others l (fault l fs) fs → x ≡ ends
   unfolding by_sort
-  inquired x g e = e ∙ sym (sort-goal Inquiry g)
+  inquired x h e = e ∙ sym (ends-by (Ok Inquiry) h)
 
-  pub invalidated_number : (x : Plan) → For-us Invalidation
-      → (q.sub ≡ 0x7E → eqb q.version 0 ≡ false → too_short q ≡ false → x ≡ lost) → x ≡ goal
+  pub invalidated_number : (x : Plan) → Ok Invalidation ≡ sorted m.sub_id m.version (length bs)
+      → (fs.sub ≡ 0x7E → eqb fs.version 0 ≡ false → too_short fs ≡ false → x ≡ lost) → x ≡ ends
   unfolding by_sort
-  invalidated_number x g e =
-      let t = invalid_tests (heard q.sub) (eqb q.version 0 || too_short q) (eqb q.sub 0x71) (eqb q.sub 0x7E) (same-sort ∙ sym g.sort) in
-      let p = or_parts (eqb q.version 0) (too_short q) t.1 in
-      e (eqb-true q.sub 0x7E t.0) p.0 p.1 ∙ sym (sort-goal Invalidation g)
+  invalidated_number x h e =
+      let t = invalid_tests (heard fs.sub) (eqb fs.version 0 || too_short fs) (eqb fs.sub 0x71) (eqb fs.sub 0x7E) (same-sort ∙ sym h) in
+      let p = or_parts (eqb fs.version 0) (too_short fs) t.1 in
+      e (eqb-true fs.sub 0x7E t.0) p.0 p.1 ∙ sym (ends-by (Ok Invalidation) h)

@@ -12,7 +12,7 @@ use Rattle.message.proofs.Trips.{fives_kept, length-counted}
 use Rattle.host.specs.Rows.{tally, Sound}
 use Rattle.responder.specs.Plans.{has_row, having_row, replied_at, upto}
 use Rattle.message.specs.Writing.{Put, Left}
-use Rattle.message.proofs.Places.{left_more, left-all, as_bytes, put_by, written_none}
+use Rattle.message.proofs.Places.{left_more, left-all, left_as, as_bytes, put_by, written_none}
 use Rattle.responder.specs.Steps.{bytes, reply_there, lists_bytes, Sends}
 use Rattle.responder.proofs.Sendings.{put-sends}
 
@@ -134,7 +134,7 @@ tallies_last [] z l = omega arith
 tallies_last (x ∷ xs) z l = let k = tallies_last xs z l in omega (arith, k)
 
 -- all of them fit an answer buffer
-pub replies_fit : (own to : ℕ) (l : List Row) → Sound l → length (bytes (map (λ a. profile_list own to a l) (having_row l places ++ 0x7F ∷ []))) ≤ 1024
+replies_fit : (own to : ℕ) (l : List Row) → Sound l → length (bytes (map (λ a. profile_list own to a l) (having_row l places ++ 0x7F ∷ []))) ≤ 1024
 replies_fit own to l s =
     let k = replies-long own to l s.ranges places 0x7F in
     let few = s.few in
@@ -179,14 +179,31 @@ replies_more own to l a xs = go (has_row l a)
     go true = refl
     go false = refl
 
-pub replies_step : (own to : ℕ) (l : List Row) (k : ℕ) → k < 16
+replies_step : (own to : ℕ) (l : List Row) (k : ℕ) → k < 16
     → replies_from own to l (drop k places) ≡ reply_there own to l k ++ replies_from own to l (drop (k + 1) places)
 replies_step own to l k h = ap (replies_from own to l) (places_from k h) ∙ replies_more own to l k (drop (k + 1) places)
 
 -- the Group, and then the Function Block
-pub replies_group : (own to : ℕ) (l : List Row) (k : ℕ) → k ≡ 16
+replies_group : (own to : ℕ) (l : List Row) (k : ℕ) → k ≡ 16
     → replies_from own to l (drop k places) ≡ reply_there own to l 0x7E ++ (encode (profile_list own to 0x7F l) ++ [])
 replies_group own to l k e = ap (λ (n : ℕ). replies_from own to l (drop n places)) e ∙ replies_more own to l 0x7E []
+
+-- a loop over the addresses, at the reply that is next
+pub at_channel : (own to : ℕ) (l : List Row) (k : ℕ) {b : List ℕ} {at : ℕ} {bs : List ℕ} {mid : ℕ} {is : List ℕ} → k < 16 → Left b at bs mid is (replies_from own to l (drop k places))
+    → Left b at bs mid is (reply_there own to l k ++ replies_from own to l (drop (k + 1) places))
+at_channel own to l k h p = left_as refl refl (replies_step own to l k h) p
+
+pub at_group : (own to : ℕ) (l : List Row) (k : ℕ) {b : List ℕ} {at : ℕ} {bs : List ℕ} {mid : ℕ} {is : List ℕ} → k ≡ 16 → Left b at bs mid is (replies_from own to l (drop k places))
+    → Left b at bs mid is (reply_there own to l 0x7E ++ (encode (profile_list own to 0x7F l) ++ []))
+at_group own to l k h p = left_as refl refl (replies_group own to l k h) p
+
+-- there is room for what is next
+pub left_room : {b : List ℕ} {at : ℕ} {bs : List ℕ} {mid : ℕ} {is : List ℕ} (xs ys : List ℕ) → Left b at bs mid is (xs ++ ys) → mid + length xs ≤ length is
+left_room xs ys p = omega (arith, p.room, length-append xs ys)
+
+pub lists_fit : (own to : ℕ) (l : List Row) → Sound l → length (lists_bytes own to l 0x7F) ≤ 1024
+unfolding lists_bytes
+lists_fit own to l s = replies_fit own to l s
 
 pub every_list : (own to : ℕ) (l : List Row) → replies_from own to l places ≡ lists_bytes own to l 0x7F
 unfolding lists_bytes
@@ -199,9 +216,9 @@ one_list own to l a h =
     ∙ ap (λ (b : Bool). bytes (map (λ c. profile_list own to c l) (cond b (having_row l places ++ 0x7F ∷ []) (a ∷ [])))) (sym h)
 
 -- a whole answer, put by its last reply
-pub last_reply : (own to : ℕ) (l : List Row) (before mid after : List ℕ) (at end : ℕ) → Left before 0 (replies_from own to l places) at mid (encode (profile_list own to 0x7F l) ++ [])
-    → 0 + length (replies_from own to l places) ≤ length before → Put mid at (encode (profile_list own to 0x7F l)) end after → Put before 0 (lists_bytes own to l 0x7F) end after
-last_reply own to l before mid after at end p room q = as_bytes (every_list own to l) (left-all room (left_more _ _ p q))
+pub last_reply : (own to : ℕ) (l : List Row) (before mid after : List ℕ) (from at end : ℕ) → Left before from (replies_from own to l places) at mid (encode (profile_list own to 0x7F l) ++ [])
+    → from + length (replies_from own to l places) ≤ length before → Put mid at (encode (profile_list own to 0x7F l)) end after → Put before from (lists_bytes own to l 0x7F) end after
+last_reply own to l before mid after from at end p room q = as_bytes (every_list own to l) (left-all room (left_more _ _ p q))
 
 -- an address without a row gets none
 pub none-there : (own to : ℕ) (l : List Row) (a : ℕ) (before : List ℕ) (at : ℕ) → has_row l a ≡ false → at + length (reply_there own to l a) ≤ length before

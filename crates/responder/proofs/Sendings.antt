@@ -1,6 +1,8 @@
 -- What is written to the answer buffer is what is sent.
-use Rattle.std.proofs.Common.{◌≡◌, ℕ, ◌+◌, ◌≤◌, Bool, true, false, List, [], ◌∷◌, ◌++◌, length, take, drop, Ok, Err, Result, sym, refl, ap, ◌∙◌, subst, zero-add, arith}
-use Rattle.std.proofs.lemmas.List.{take_at, drop_at, length-append, append-nil}
+use Rattle.std.proofs.Common.{◌≡◌, ℕ, ◌+◌, ◌≤◌, Bool, true, false, List, [], ◌∷◌, ◌++◌, length, take, drop, Ok, Result, sym, refl, ap, ◌∙◌, subst, zero-add, arith}
+use Rattle.std.specs.Result.{result_unwrap_or}
+use Rattle.std.specs.Array.{IsFirstChunk}
+use Rattle.std.proofs.lemmas.List.{take_at, drop_at, length-append, append-nil, take-append-le, drop-append-le, take-append-drop}
 use Rattle.std.proofs.lemmas.Bool.{and_from, le-leb, cond-true}
 use Rattle.message.specs.Messages.{Fields, encode}
 use Rattle.message.specs.Writing.{written, room_for, Put, Written}
@@ -9,15 +11,15 @@ use Rattle.message.specs.Sending.{supports, channels, discover, discover_reply, 
 use Rattle.message.specs.declared.sent.Sent.{Sent}
 use Rattle.message.specs.declared.sent.Sent.TheVariants.{Discovery, DiscoveryReply, InvalidateMuid, Enabled, Disabled, Added, Removed, Nak}
 use Rattle.message.proofs.Encoding.{length-encode}
-use Rattle.message.proofs.Places.{put_by, and_then}
+use Rattle.message.proofs.Places.{put_by, and_then, as_bytes}
 use Rattle.message.proofs.Trips.{identity-sevens, id_sevens}
-use Rattle.responder.specs.Steps.{sent, outcome, bytes, Sends, State, Done}
+use Rattle.responder.specs.Steps.{sent, Outcome, outcome, bytes, Rest, Sends, State, Done}
 use Rattle.responder.specs.Plans.{Plan, send}
 use Rattle.message.specs.declared.row.Row.{Row}
 use Rattle.host.specs.Hosts.{Consents}
 
 -- a message that has room is put
-pub written-put : (bs before : List ℕ) (at : ℕ) (r : Result ℕ Refusal) (after : List ℕ) → length bs ≤ 512 → at + length bs ≤ length before
+written-put : (bs before : List ℕ) (at : ℕ) (r : Result ℕ Refusal) (after : List ℕ) → length bs ≤ 512 → at + length bs ≤ length before
     → Written bs before at r after → (r ≡ Ok (at + length bs)) × Put before at bs (at + length bs) after
 written-put bs before at r after few room w =
     let f : room_for (length bs) before at ≡ true = and_from _ _ (le-leb (length bs) 512 few) (le-leb (at + length bs) (length before) room) in
@@ -41,16 +43,15 @@ put-sends bs before after end p =
       );
     }
 
-pub sends_as : (bs cs before after : List ℕ) (r s : Result ℕ Refusal) → bs ≡ cs → r ≡ s → Sends bs before s after → Sends cs before r after
-sends_as bs cs before after r s e f p =
-    subst (λ (x : List ℕ). Sends x before r after) e (subst (λ (x : Result ℕ Refusal). Sends bs before x after) (sym f) p)
-
 -- one message
-pub written-sends : (m : Fields) (before : List ℕ) (r : Result ℕ Refusal) (after : List ℕ) → length (encode m) ≤ 512 → 1024 ≤ length before
-    → Written (encode m) before 0 r after → Sends (bytes (m ∷ [])) before r after
-written-sends m before r after few room w =
-    let p = written-put (encode m) before 0 r after few (omega arith) w in
-    sends_as (encode m) (bytes (m ∷ [])) before after r (Ok (0 + length (encode m))) (sym (append-nil (encode m))) p.0 (put-sends (encode m) before after _ p.1)
+pub one_sends : (m : Fields) (before after : List ℕ) (end : ℕ) → Put before 0 (encode m) end after → Sends (bytes (m ∷ [])) before (Ok end) after
+one_sends m before after end p = put-sends (bytes (m ∷ [])) before after end (as_bytes (sym (append-nil (encode m))) p)
+
+-- two messages, the second where the first ended
+pub two_send : (m n : Fields) (before mid after : List ℕ) (at end : ℕ) → Put before 0 (encode m) at mid → Put mid at (encode n) end after
+    → Sends (bytes (m ∷ n ∷ [])) before (Ok end) after
+two_send m n before mid after at end p q =
+    put-sends (bytes (m ∷ n ∷ [])) before after end (and_then p (as_bytes (sym (append-nil (encode n))) q))
 
 -- no message
 pub nothing_sends : (before : List ℕ) → Sends (bytes []) before (Ok 0) before
@@ -78,41 +79,35 @@ length-meant own (Added a i) = omega (arith, length-encode (added_report own a.b
 length-meant own (Removed a i) = omega (arith, length-encode (removed_report own a.byte i.bytes), (id_sevens i).0)
 length-meant own (Nak to a sub status) = omega arith
 
--- two messages, the second where the first ended
-pub two_send : (own own' : ℕ) (s t : Sent) (before mid after : List ℕ) (at : ℕ) (r : Result ℕ Refusal) → 1024 ≤ length before
-    → Written (encode (meant own s)) before 0 (Ok at) mid → Written (encode (meant own' t)) mid at r after
-    → Sends (bytes (meant own s ∷ meant own' t ∷ [])) before r after
-two_send own own' s t before mid after at r room p q =
-    let m : List ℕ = encode (meant own s) in
-    let n : List ℕ = encode (meant own' t) in
-    let few = length-meant own s in
-    let more = length-meant own' t in
-    let a = written-put m before 0 (Ok at) mid (omega arith) (omega arith) p in
-    let e : at ≡ 0 + length m = cc in
-    let long = a.1.long in
-    let b = written-put n mid at r after (omega arith) (omega (arith, e, long)) q in
-    let c = subst (λ (k : ℕ). Put before 0 m k mid) (sym e) a.1 in
-    sends_as (m ++ n) (bytes (meant own s ∷ meant own' t ∷ [])) before after r (Ok (at + length n)) (ap (λ (x : List ℕ). m ++ x) (sym (append-nil n))) b.0
-    (put-sends (m ++ n) before after (at + length n) (and_then c b.1))
+-- where there is room, a message is put and the place that is told is its end
+pub put_or : (bs before : List ℕ) (at end : ℕ) (r : Result ℕ Refusal) (after : List ℕ) → length bs ≤ 512 → at + length bs ≤ length before
+    → Written bs before at r after → end ≡ result_unwrap_or r at → Put before at bs end after
+put_or bs before at end r after few room w e =
+    let a = written-put bs before at r after few room w in
+    let n : end ≡ at + length bs = e ∙ ap (λ (x : Result ℕ Refusal). result_unwrap_or x at) a.0 in
+    rw n a.1
 
--- where there is room, the place that is told is the end, and nothing is refused
-pub put_to : (bs before : List ℕ) (at end : ℕ) (after : List ℕ) → length bs ≤ 512 → at + length bs ≤ length before
-    → Written bs before at (Ok end) after → Put before at bs end after
-put_to bs before at end after few room w =
-    let a = written-put bs before at (Ok end) after few room w in
-    let f = a.0 in
-    let e : at + length bs ≡ end = cc in
-    subst (λ (k : ℕ). Put before at bs k after) e a.1
+-- the front of a buffer and the rest are the buffer
+pub front_kept : (N : ℕ) (before part : List ℕ) → IsFirstChunk before part N → part ++ drop N before ≡ before
+front_kept N before part f = ap (λ (xs : List ℕ). xs ++ drop N before) f.same ∙ take-append-drop N before
 
-pub not_refused : (bs before : List ℕ) (at : ℕ) (e : Refusal) (after : List ℕ) → length bs ≤ 512 → at + length bs ≤ length before
-    → Written bs before at (Err e) after → ⊥
-not_refused bs before at e after few room w =
-    let f = (written-put bs before at (Err e) after few room w).0 in
-    let z : ◌≡◌ {A = ℕ} 0 1 = cc in
-    omega arith
+-- what is sent from the front of a buffer is sent from the buffer
+pub front_says : (n : ℕ) (part' rest : List ℕ) → n ≤ length part' → outcome (Ok n) part' ≡ outcome (Ok n) (part' ++ rest)
+front_says n part' rest h = ap sent (sym (take-append-le n part' rest h))
 
-pub never_refused : (own : ℕ) (s : Sent) (before : List ℕ) (at : ℕ) (e : Refusal) (after : List ℕ) → at + 33 ≤ length before
-    → Written (encode (meant own s)) before at (Err e) after → ⊥
-never_refused own s before at e after room w =
-    let few = length-meant own s in
-    not_refused (encode (meant own s)) before at e after (omega arith) (omega arith) w
+pub front_rest : (n : ℕ) (part part' rest : List ℕ) → length part' ≡ length part → Rest (Ok n) part part' → Rest (Ok n) (part ++ rest) (part' ++ rest)
+front_rest n part part' rest e (h, k) = (
+  omega (arith, h, length-append part rest),
+  drop-append-le n part' rest (omega (arith, h, e)) ∙ ap (λ (xs : List ℕ). xs ++ rest) k ∙ sym (drop-append-le n part rest h),
+)
+
+pub in_front : {S : Type 0} (listing : S → List Row) (consents : S → Consents) (fixed : S → Bool) (keeps : S → S → Type 0) (plan : Plan) (s s' : State S) (n N : ℕ)
+    (before part part' : List ℕ) → IsFirstChunk before part N → length (part' ++ drop N before) ≡ length before → Done listing consents fixed keeps plan s (outcome (Ok n) part') s'
+    → Rest (Ok n) part part'
+    → (Done listing consents fixed keeps plan s (outcome (Ok n) (part' ++ drop N before)) s') × Rest (Ok n) before (part' ++ drop N before)
+in_front listing consents fixed keeps plan s s' n N before part part' f keep d r =
+    let e = front_kept N before part f in
+    let long : length part' ≡ length part = omega (arith, keep, ap length e, length-append part' (drop N before), length-append part (drop N before)) in (
+      subst (λ (o : Outcome). Done listing consents fixed keeps plan s o s') (front_says n part' (drop N before) (omega (arith, r.0, long))) d,
+      subst (λ (xs : List ℕ). Rest (Ok n) xs (part' ++ drop N before)) e (front_rest n part part' (drop N before) long r),
+    )

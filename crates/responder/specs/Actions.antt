@@ -19,13 +19,13 @@ use Rattle.responder.specs.declared.action.Action.TheVariants.{GiveUpNumber, Cho
 use Rattle.responder.specs.declared.action.Sorted.{Sorted}
 
 -- a heard message of version 0 or below its least length is not understood
-abbrev pub sorted : (sub version length : ℕ) → Sorted
+abbrev pub sorted : (sub version length : ℕ) → Result Sorted Refusal
 sorted sub version n =
     cond (heard sub)
-    (cond (version == 0 || nat_lt n (least sub version)) Sorted.NotUnderstood
-    (cond (sub == code SubId.ReplyToDiscovery) Sorted.Reply
-    (cond (sub == code SubId.InvalidateMuid) Sorted.Invalidation Sorted.Heard)))
-    Sorted.Inquiry
+    (cond (version == 0 || nat_lt n (least sub version)) (Err Refusal.NotUnderstood)
+    (cond (sub == code SubId.ReplyToDiscovery) (Ok Sorted.Reply)
+    (cond (sub == code SubId.InvalidateMuid) (Ok Sorted.Invalidation) (Ok Sorted.Heard))))
+    (Ok Sorted.Inquiry)
 
 module _ (d : Identity) (own : ℕ) (others : List ℕ) (l : List Row) (draw : ℕ) where
   abbrev pub action_plan : Action → Plan
@@ -37,7 +37,7 @@ module _ (d : Identity) (own : ℕ) (others : List ℕ) (l : List Row) (draw : �
   action_plan (Deny to address sub status) = send (nak_reply own to.number address.byte sub status ∷ []) own others
   action_plan (Discovered from path) = send (discover_reply d own from.number path ∷ []) own (noted own from.number others)
   action_plan (Lists to address) = send (map (λ a. profile_list own to.number a l) (replied_at l address.byte)) own others
-  action_plan (Switch address id on) = turn address.byte id.bytes on
+  action_plan (Switch named on) = turn named.address.byte named.id.bytes on
 
   abbrev pub decided : Result Action Refusal → Plan
   decided (Ok action) = action_plan action

@@ -1,5 +1,40 @@
 //! What is done with a message.
-use message::{Address, Muid, NakStatus, ProfileId};
+ghost use Rattle.std.specs.Prelude.{◌≡◌, ℕ, false, MatchOption};
+ghost use Rattle.message.specs.Rows.{ranged};
+ghost use Rattle.message.specs.Sending.{meant, report};
+
+use message::{Address, Muid, NakStatus, ProfileId, Sent};
+
+/// A row by its address and Profile ID, both in range.
+#[derive(Clone, Copy)]
+pub struct Named {
+    pub address: Address,
+    pub id: ProfileId,
+}
+
+impl Named {
+    /// The row of that address and ID, unless they are out of range.
+    pub fn new(address: u8, id: [u8; 5]) -> Option<Named>
+        ensures { MatchOption result (ranged address id ≡ false) (λ n. (n.address.byte ≡ address) × (n.id.bytes ≡ id)) }
+    {
+        Some(Named {
+            address: Address::new(address)?,
+            id: ProfileId::new(id)?,
+        })
+    }
+
+    /// The report that it is on, or off.
+    pub fn report(self, on: bool) -> Sent
+        ensures { (own : ℕ) → meant own result ≡ report own self.address.byte self.id.bytes on }
+    {
+        let Named { address, id } = self;
+        if on {
+            Sent::Enabled { address, id }
+        } else {
+            Sent::Disabled { address, id }
+        }
+    }
+}
 
 /// What is to be done with a message that is accepted.
 #[derive(Clone, Copy)]
@@ -33,8 +68,7 @@ pub enum Action {
     },
     /// A device asks to switch a row.
     Switch {
-        address: Address,
-        id: ProfileId,
+        named: Named,
         on: bool,
     },
 }
@@ -42,8 +76,6 @@ pub enum Action {
 /// How a message for us is sorted, before what it asks.
 #[derive(Clone, Copy)]
 pub enum Sorted {
-    /// It is heard, but of version 0 or too short.
-    NotUnderstood,
     /// A reply to a Discovery.
     Reply,
     /// An Invalidate MUID.

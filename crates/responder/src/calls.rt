@@ -6,18 +6,19 @@ ghost use Rattle.responder.specs.Models.{state_of};
 ghost use Rattle.responder.specs.Plans.{announcing, taking};
 ghost use Rattle.responder.specs.Steps.{outcome, Done, Rest, Turned};
 
-use crate::action::Action;
+use crate::action::{Action, Named};
 use crate::deciding::decide;
-use crate::listing::write_lists;
-use crate::reporting::{copy_rows, write_reports};
+use crate::listing::Listing;
+use crate::replying::Replies;
+use crate::reporting::Reports;
 use crate::responder::Responder;
 use crate::sending::{write_new_number, write_one};
 use host::Host;
-use message::{Address, Identity, Muid, ProfileId, Refusal, Sent};
+use message::{Identity, Muid, Refusal, Sent};
 use numbers::Numbers;
 
 /// The least answer buffer.
-const ROOM: usize = 1024;
+pub(crate) const ROOM: usize = 1024;
 
 impl<P: Host> Responder<P> {
     /// A responder over a host, with the own number that the draw gives. Nobody is listed.
@@ -46,39 +47,42 @@ impl<P: Host> Responder<P> {
         ensures does { Done P.Host.listing P.Host.consents P.Host.fixed P.Host.keeps (announcing self.now.identity (own_of self.now.numbers) (listed_of self.now.numbers) (P.Host.listing self.now.host) (length answer.old)) (state_of self.now) (outcome result answer.new) (state_of self.now) }
         ensures rest { Rest result answer.old answer.new }
     {
-        if answer.len() < ROOM {
+        let Some(room) = answer.first_chunk_mut::<ROOM>() else {
             return Err(Refusal::BufferTooSmall);
-        }
+        };
         let identity = self.identity;
-        write_one(Sent::Discovery { identity }, self.own(), answer)
+        Ok(write_one(Sent::Discovery { identity }, self.own(), room))
     }
 
     /// Asks the host to switch a row, and writes the reports of what follows.
-    fn switch(&mut self, address: Address, id: ProfileId, on: bool, answer: &mut [u8]) -> usize
-        requires { 1024 ≤ length answer.old }
-        ensures does { Turned P.Host.listing P.Host.consents P.Host.fixed P.Host.keeps address.byte id.bytes on (state_of self.old) (outcome (Ok result) answer.new) (state_of self.new) }
+    fn switch(&mut self, named: Named, on: bool, answer: &mut [u8; ROOM]) -> usize
+        ensures does { Turned P.Host.listing P.Host.consents P.Host.fixed P.Host.keeps named.address.byte named.id.bytes on (state_of self.old) (outcome (Ok result) answer.new) (state_of self.new) }
         ensures rest { Rest (Ok result) answer.old answer.new }
         ensures same { self.new.identity ≡ self.old.identity }
     {
         let own = self.own();
-        let rows = self.host.rows();
-        let count = rows.len();
-        let before = copy_rows(rows);
-        let _ = self.host.switch(address.byte, id.bytes, on);
-        write_reports(
-            &before[0..count],
-            self.host.rows(),
-            (address, id),
+        let listed = Listing::of(&self.host);
+        // a copy in fixed memory, with its length beside it, since the host's rows change
+        let count = listed.rows.len();
+        let copy = listed.copy();
+        let _ = self.host.switch(named.address.byte, named.id.bytes, on);
+        let before = Listing {
+            rows: &copy[0..count],
+        };
+        let after = Listing::of(&self.host);
+        let reports = Reports {
+            before,
+            after,
+            named,
             own,
-            answer,
-        )
+        };
+        reports.write(answer)
     }
 
     /// Does what was decided.
-    fn act(&mut self, action: Action, draw: u32, answer: &mut [u8]) -> Result<usize, Refusal>
-        requires { 1024 ≤ length answer.old }
-        ensures does { Done P.Host.listing P.Host.consents P.Host.fixed P.Host.keeps (action_plan self.old.identity (own_of self.old.numbers) (listed_of self.old.numbers) (P.Host.listing self.old.host) draw action) (state_of self.old) (outcome result answer.new) (state_of self.new) }
-        ensures rest { Rest result answer.old answer.new }
+    fn act(&mut self, action: Action, draw: u32, answer: &mut [u8; ROOM]) -> usize
+        ensures does { Done P.Host.listing P.Host.consents P.Host.fixed P.Host.keeps (action_plan self.old.identity (own_of self.old.numbers) (listed_of self.old.numbers) (P.Host.listing self.old.host) draw action) (state_of self.old) (outcome (Ok result) answer.new) (state_of self.new) }
+        ensures rest { Rest (Ok result) answer.old answer.new }
         ensures same { self.new.identity ≡ self.old.identity }
     {
         let own = self.own();
@@ -94,13 +98,13 @@ impl<P: Host> Responder<P> {
             }
             Action::Note(number) => {
                 self.numbers.note(number);
-                Ok(0)
+                0
             }
             Action::Forget(number) => {
                 self.numbers.forget(number);
-                Ok(0)
+                0
             }
-            Action::Nothing => Ok(0),
+            Action::Nothing => 0,
             Action::Deny {
                 to,
                 address,
@@ -129,9 +133,10 @@ impl<P: Host> Responder<P> {
                 )
             }
             Action::List { to, address } => {
-                Ok(write_lists(self.host.rows(), address, own, to, answer))
+                let listing = Listing::of(&self.host);
+                Replies { listing, own, to }.write(address, answer)
             }
-            Action::Switch { address, id, on } => Ok(self.switch(address, id, on, answer)),
+            Action::Switch { named, on } => self.switch(named, on, answer),
         }
     }
 
@@ -141,11 +146,11 @@ impl<P: Host> Responder<P> {
         ensures rest { Rest result answer.old answer.new }
         ensures same { self.new.identity ≡ self.old.identity }
     {
-        if answer.len() < ROOM {
+        let Some(room) = answer.first_chunk_mut::<ROOM>() else {
             return Err(Refusal::BufferTooSmall);
-        }
+        };
         let own = self.own();
-        let action = decide(self.host.rows(), own.number, message)?;
-        self.act(action, draw, answer)
+        let action = decide(Listing::of(&self.host), own.number, message)?;
+        Ok(self.act(action, draw, room))
     }
 }

@@ -5,6 +5,7 @@ mod action;
 mod calls;
 mod deciding;
 mod listing;
+mod replying;
 mod reporting;
 pub mod responder;
 mod sending;

@@ -1,92 +1,66 @@
-//! Replies to a listing inquiry.
-ghost use Rattle.std.specs.Prelude.{◌≡◌, ℕ, ◌+◌, ◌≤◌, List, length};
-ghost use Rattle.host.specs.Rows.{Sound};
-ghost use Rattle.message.specs.Messages.{encode};
-ghost use Rattle.message.specs.Sending.{profile_list};
-ghost use Rattle.message.specs.Writing.{Put};
+//! The rows that a host lists.
+ghost use Rattle.std.specs.Prelude.{◌≡◌, false, true, length, take, MatchOption};
+ghost use Rattle.host.specs.Rows.{has as listed, is_on, look, Sound};
 ghost use Rattle.responder.specs.Plans.{has_row};
-ghost use Rattle.responder.specs.Steps.{lists_bytes, reply_there};
 
-use message::{Address, Muid, Refusal, Row, write_profile_reply};
+use crate::action::Named;
+use host::{Host, find_row};
+use message::Row;
 
-/// Whether some row stands at an address.
-fn has_row(rows: &[Row], address: u8) -> bool
-    ensures { result ≡ has_row rows.now address }
-{
-    for k in 0..rows.len() {
-        if address == rows[k].address {
-            return true;
+/// The rows of a host: few, in range and rising.
+#[derive(Clone, Copy)]
+pub(crate) struct Listing<'a> {
+    pub rows: &'a [Row],
+    ghost sound: { Sound rows.now },
+}
+
+impl<'a> Listing<'a> {
+    /// What a host lists.
+    pub fn of<P: Host>(host: &'a P) -> Listing<'a>
+        ensures { result.rows.now ≡ P.Host.listing host.now }
+    {
+        Listing { rows: host.rows() }
+    }
+
+    /// Whether some row stands at an address.
+    pub fn has_row(self, address: u8) -> bool
+        ensures { result ≡ has_row self.entry.rows.now address }
+    {
+        // by an index, as replies go over rows
+        for k in 0..self.rows.len() {
+            if address == self.rows[k].address {
+                return true;
+            }
         }
+        false
     }
-    false
-}
 
-/// Puts the reply at an address where there is room for it.
-fn put_reply(
-    rows: &[Row],
-    address: Address,
-    own: Muid,
-    to: Muid,
-    answer: &mut [u8],
-    at: usize,
-) -> usize
-    requires sound { Sound rows.now }
-    requires room { at + length (encode (profile_list own.number to.number address.byte rows.now)) ≤ length answer.old }
-    ensures { Put answer.old at (encode (profile_list own.number to.number address.byte rows.now)) result answer.new }
-{
-    match write_profile_reply(rows, address, own, to, answer, at) {
-        Ok(end) => end,
-        Err(_) => at,
+    /// Whether the row with that address and ID is listed and on.
+    pub fn is_on(self, address: u8, id: [u8; 5]) -> bool
+        ensures { result ≡ is_on (look self.entry.rows.now address id) }
+    {
+        find_row(self.rows, address, id).is_some_and(|k| self.rows[k].on)
     }
-}
 
-/// Puts the reply at an address if it has a row.
-fn put_if_any(
-    rows: &[Row],
-    address: Address,
-    own: Muid,
-    to: Muid,
-    answer: &mut [u8],
-    at: usize,
-) -> usize
-    requires sound { Sound rows.now }
-    requires room { at + length (reply_there own.number to.number rows.now address.byte) ≤ length answer.old }
-    ensures { Put answer.old at (reply_there own.number to.number rows.now address.byte) result answer.new }
-{
-    if has_row(rows, address.byte) {
-        return put_reply(rows, address, own, to, answer, at);
+    /// The row with that address and ID, if it is listed.
+    pub fn find(self, address: u8, id: [u8; 5]) -> Option<Named>
+        ensures { MatchOption result (listed self.entry.rows.now address id ≡ false) (λ n. (n.address.byte ≡ address) × (n.id.bytes ≡ id) × (listed self.entry.rows.now address id ≡ true)) }
+    {
+        find_row(self.rows, address, id)?;
+        Named::new(address, id)
     }
-    at
-}
 
-/// Replies for each channel that has a row, rising, for the Group if it has one, and for the Function Block.
-fn write_every_list(rows: &[Row], own: Muid, to: Muid, answer: &mut [u8]) -> usize
-    requires sound { Sound rows.now }
-    requires room { 1024 ≤ length answer.old }
-    ensures { Put answer.old 0 (lists_bytes own.number to.number rows.now 0x7F) result answer.new }
-{
-    let mut at = 0;
-    for channel in 0..16u8 {
-        at = put_if_any(rows, Address { byte: channel }, own, to, answer, at);
+    /// A copy of the rows, with room for the most that a listing has.
+    pub fn copy(self) -> [Row; 64]
+        ensures { take (length self.entry.rows.now) result ≡ self.entry.rows.now }
+    {
+        let blank = Row {
+            address: 0,
+            id: [0; 5],
+            on: false,
+        };
+        let mut copy = [blank; 64];
+        copy[0..self.rows.len()].copy_from_slice(self.rows);
+        copy
     }
-    let at = put_if_any(rows, Address { byte: 0x7E }, own, to, answer, at);
-    put_reply(rows, Address { byte: 0x7F }, own, to, answer, at)
-}
-
-/// The answer to a listing inquiry.
-pub(crate) fn write_lists(
-    rows: &[Row],
-    address: Address,
-    own: Muid,
-    to: Muid,
-    answer: &mut [u8],
-) -> usize
-    requires sound { Sound rows.now }
-    requires room { 1024 ≤ length answer.old }
-    ensures { Put answer.old 0 (lists_bytes own.number to.number rows.now address.byte) result answer.new }
-{
-    if address.byte == 0x7F {
-        return write_every_list(rows, own, to, answer);
-    }
-    put_reply(rows, address, own, to, answer, 0)
 }

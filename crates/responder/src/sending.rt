@@ -1,16 +1,37 @@
-//! Answers of one or two messages, written to the front of an answer buffer.
-ghost use Rattle.std.specs.Prelude.{◌≡◌, ℕ, ◌≤◌, List, [], ◌∷◌, length};
+//! Answers of one or two messages, and the pen that writes answers.
+ghost use Rattle.std.specs.Prelude.{◌≡◌, ℕ, ◌+◌, ◌≤◌, List, [], ◌∷◌, length, Ok};
+ghost use Rattle.message.specs.Messages.{encode};
 ghost use Rattle.message.specs.Sending.{discover, invalidate, meant};
+ghost use Rattle.message.specs.Writing.{Put};
+ghost use Rattle.responder.specs.Pens.{Puts, Room};
 ghost use Rattle.responder.specs.Steps.{bytes, Sends};
 
-use message::{Identity, Muid, Refusal, Sent, write};
+use crate::calls::ROOM;
+use message::{Identity, Muid, Sent, write};
+
+/// A buffer, and the place where the next message goes.
+#[derive(Drop)]
+pub(crate) struct Pen<'a> {
+    pub out: &'a mut [u8],
+    pub at: usize,
+}
+
+/// Puts a message of known length where there is room for it.
+pub(crate) fn send(sent: Sent, own: Muid, pen: &mut Pen<'_>)
+    requires { Room (encode (meant own.number sent)) pen.old }
+    ensures { Puts (encode (meant own.number sent)) pen.old pen.new }
+{
+    let out = &mut *pen.out;
+    pen.at = write(sent, own, out, pen.at).unwrap_or(pen.at);
+}
 
 /// One message.
-pub(crate) fn write_one(sent: Sent, own: Muid, answer: &mut [u8]) -> Result<usize, Refusal>
-    requires { 1024 ≤ length answer.old }
-    ensures { Sends (bytes (meant own.number sent ∷ [])) answer.old result answer.new }
+pub(crate) fn write_one(sent: Sent, own: Muid, answer: &mut [u8; ROOM]) -> usize
+    ensures { Sends (bytes (meant own.number sent ∷ [])) answer.old (Ok result) answer.new }
 {
-    write(sent, own, answer, 0)
+    let mut pen = Pen { out: answer, at: 0 };
+    send(sent, own, &mut pen);
+    pen.at
 }
 
 /// An Invalidate MUID for the number that is given up, from it, and a Discovery from the new one.
@@ -18,11 +39,12 @@ pub(crate) fn write_new_number(
     identity: Identity,
     old: Muid,
     own: Muid,
-    answer: &mut [u8],
-) -> Result<usize, Refusal>
-    requires { 1024 ≤ length answer.old }
-    ensures { Sends (bytes (invalidate old.number old.number ∷ discover identity own.number ∷ [])) answer.old result answer.new }
+    answer: &mut [u8; ROOM],
+) -> usize
+    ensures { Sends (bytes (invalidate old.number old.number ∷ discover identity own.number ∷ [])) answer.old (Ok result) answer.new }
 {
-    let at = write(Sent::InvalidateMuid { target: old }, old, answer, 0)?;
-    write(Sent::Discovery { identity }, own, answer, at)
+    let mut pen = Pen { out: answer, at: 0 };
+    send(Sent::InvalidateMuid { target: old }, old, &mut pen);
+    send(Sent::Discovery { identity }, own, &mut pen);
+    pen.at
 }
