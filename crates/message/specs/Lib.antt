@@ -8,4 +8,5 @@ pub mod Shapes
 pub mod Rows
 pub mod Sending
 pub mod Writing
+pub mod Pens
 pub mod Laws

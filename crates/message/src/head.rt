@@ -3,7 +3,8 @@ ghost use Rattle.std.specs.Prelude.{◌≡◌, ℕ, ◌+◌, ◌*◌, ◌<◌, �
 ghost use Rattle.message.specs.Codes.{code};
 ghost use Rattle.message.specs.Messages.{header, encode};
 ghost use Rattle.message.specs.Sending.{sends};
-ghost use Rattle.message.specs.Writing.{Put, Written};
+ghost use Rattle.message.specs.Pens.{Puts};
+ghost use Rattle.message.specs.Writing.{Written};
 
 use crate::address::Address;
 use crate::muid::Muid;
@@ -24,8 +25,7 @@ impl Head {
     /// Puts `F0 7E` address `0D` Sub-ID `02`, source, destination.
     pub(crate) fn put(self, pen: &mut Pen<'_>)
         requires { pen.old.at + 14 ≤ length pen.old.out.now }
-        ensures bytes { Put pen.old.out.now pen.old.at (header (code self.sub_id) self.address.byte self.source.number self.destination.number) pen.new.at pen.new.out.now }
-        ensures same_buffer { pen.new.out.ghost_name ≡ pen.old.out.ghost_name }
+        ensures { Puts (header (code self.sub_id) self.address.byte self.source.number self.destination.number) pen.old pen.new }
     {
         pen.put(&[
             0xF0,

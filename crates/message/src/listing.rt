@@ -4,7 +4,8 @@ ghost use Rattle.std.specs.List.{flat_map};
 ghost use Rattle.message.specs.Messages.{encode};
 ghost use Rattle.message.specs.Rows.{stands, part, rows_of};
 ghost use Rattle.message.specs.Sending.{counted, ids_of, profile_list};
-ghost use Rattle.message.specs.Writing.{Put, Written};
+ghost use Rattle.message.specs.Pens.{Puts, Room};
+ghost use Rattle.message.specs.Writing.{Written};
 
 use crate::address::Address;
 use crate::head::Head;
@@ -55,9 +56,8 @@ impl Part<'_> {
 
     /// Puts their IDs in the listing's order.
     fn put_ids(self, pen: &mut Pen<'_>)
-        requires { pen.old.at + length (ids_of (rows_of self)) ≤ length pen.old.out.now }
-        ensures bytes { Put pen.old.out.now pen.old.at (ids_of (rows_of self.entry)) pen.new.at pen.new.out.now }
-        ensures same_buffer { pen.new.out.ghost_name ≡ pen.old.out.ghost_name }
+        requires { Room (ids_of (rows_of self)) pen.old }
+        ensures { Puts (ids_of (rows_of self.entry)) pen.old pen.new }
     {
         let rows = self.rows;
         // A rule of the project: replies are written by loops over rows with an index.
@@ -70,10 +70,9 @@ impl Part<'_> {
 
     /// Puts how many they are, and their IDs.
     fn put(self, pen: &mut Pen<'_>)
-        requires room { pen.old.at + length (counted (rows_of self)) ≤ length pen.old.out.now }
+        requires room { Room (counted (rows_of self)) pen.old }
         requires few { length (rows_of self) ≤ 98 }
-        ensures bytes { Put pen.old.out.now pen.old.at (counted (rows_of self.entry)) pen.new.at pen.new.out.now }
-        ensures same_buffer { pen.new.out.ghost_name ≡ pen.old.out.ghost_name }
+        ensures { Puts (counted (rows_of self.entry)) pen.old pen.new }
     {
         let count = self.count();
         // `as` narrows what has seven bits: `try_from` would be no plainer, with an error that cannot be.

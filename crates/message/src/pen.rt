@@ -1,6 +1,7 @@
 //! Writing part after part into what is left of a lent buffer.
-ghost use Rattle.std.specs.Prelude.{◌≡◌, ℕ, ◌+◌, ◌≤◌, length};
-ghost use Rattle.message.specs.Writing.{room_for, Put};
+ghost use Rattle.std.specs.Prelude.{◌≡◌};
+ghost use Rattle.message.specs.Pens.{Puts, Room};
+ghost use Rattle.message.specs.Writing.{room_for};
 
 /// The most bytes that a message has.
 pub(crate) const LONGEST: usize = 512;
@@ -23,9 +24,8 @@ impl Pen<'_> {
 
     /// Copies bytes to the place, which moves to where they end.
     pub(crate) fn put(&mut self, bytes: &[u8])
-        requires { self.old.at + length bytes.now ≤ length self.old.out.now }
-        ensures bytes { Put self.old.out.now self.old.at bytes.now self.new.at self.new.out.now }
-        ensures same_buffer { self.new.out.ghost_name ≡ self.old.out.ghost_name }
+        requires { Room bytes.now self.old }
+        ensures { Puts bytes.now self.old self.new }
     {
         let out = &mut *self.out;
         let end = self.at + bytes.len();

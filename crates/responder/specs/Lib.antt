@@ -3,4 +3,3 @@ pub mod Plans
 pub mod Actions
 pub mod Steps
 pub mod Models
-pub mod Pens

@@ -1,9 +1,9 @@
 //! What is done with a message.
 ghost use Rattle.std.specs.Prelude.{◌≡◌, ℕ, false, MatchOption};
-ghost use Rattle.message.specs.Rows.{ranged};
+ghost use Rattle.message.specs.Rows.{pair_ranged};
 ghost use Rattle.message.specs.Sending.{meant, report};
 
-use message::{Address, Muid, NakStatus, ProfileId, Sent};
+use message::{Address, Muid, NakStatus, Pair, ProfileId, Sent};
 
 /// A row by its address and Profile ID, both in range.
 #[derive(Clone, Copy)]
@@ -13,14 +13,25 @@ pub struct Named {
 }
 
 impl Named {
-    /// The row of that address and ID, unless they are out of range.
-    pub fn new(address: u8, id: [u8; 5]) -> Option<Named>
-        ensures { MatchOption result (ranged address id ≡ false) (λ n. (n.address.byte ≡ address) × (n.id.bytes ≡ id)) }
+    /// The row that a pair names, unless the pair is out of range.
+    pub fn new(pair: Pair) -> Option<Named>
+        ensures { MatchOption result (pair_ranged pair ≡ false) (λ n. (n.address.byte ≡ pair.address) × (n.id.bytes ≡ pair.id)) }
     {
         Some(Named {
-            address: Address::new(address)?,
-            id: ProfileId::new(id)?,
+            address: Address::new(pair.address)?,
+            id: ProfileId::new(pair.id)?,
         })
+    }
+
+    /// What names it.
+    pub fn pair(self) -> Pair
+        ensures { result ≡ record { address = self.address.byte; id = self.id.bytes } }
+    {
+        let ProfileId { bytes: id } = self.id;
+        Pair {
+            address: self.address.byte,
+            id,
+        }
     }
 
     /// The report that it is on, or off.

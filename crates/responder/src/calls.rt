@@ -65,7 +65,7 @@ impl<P: Host> Responder<P> {
         // a copy in fixed memory, with its length beside it, since the host's rows change
         let count = listed.rows.len();
         let copy = listed.copy();
-        let _ = self.host.switch(named.address.byte, named.id.bytes, on);
+        let _ = self.host.switch(named.pair(), on);
         let before = Listing {
             rows: &copy[0..count],
         };

@@ -14,7 +14,7 @@ ghost use Rattle.responder.specs.Plans.{denying, inquiring, opened, refuse, send
 use crate::action::{Action, Sorted};
 use crate::listing::Listing;
 use message::{
-    Address, Content, Message, Muid, NakStatus, Refusal, least_length, muid_number, read,
+    Address, Content, Message, Muid, NakStatus, Pair, Refusal, least_length, muid_number, read,
 };
 
 /// Whether a message is heard, and then which, or is an inquiry. One that is heard is refused if of version 0 or too short.
@@ -95,7 +95,11 @@ impl Inquiry<'_> {
         let Ok(id) = <[u8; 5]>::try_from(id) else {
             return self.deny(NakStatus::Malformed);
         };
-        match self.listing.find(address.byte, id) {
+        let pair = Pair {
+            address: address.byte,
+            id,
+        };
+        match self.listing.find(pair) {
             Some(named) => Ok(Action::Switch { named, on }),
             None => self.deny(NakStatus::NoSuchProfile),
         }

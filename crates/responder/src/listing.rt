@@ -5,7 +5,7 @@ ghost use Rattle.responder.specs.Plans.{has_row};
 
 use crate::action::Named;
 use host::{Host, find_row};
-use message::Row;
+use message::{Pair, Row};
 
 /// The rows of a host: few, in range and rising.
 #[derive(Clone, Copy)]
@@ -35,31 +35,26 @@ impl<'a> Listing<'a> {
         false
     }
 
-    /// Whether the row with that address and ID is listed and on.
-    pub fn is_on(self, address: u8, id: [u8; 5]) -> bool
-        ensures { result ≡ is_on (look self.entry.rows.now address id) }
+    /// Whether the row that a pair names is listed and on.
+    pub fn is_on(self, pair: Pair) -> bool
+        ensures { result ≡ is_on (look self.entry.rows.now pair.address pair.id) }
     {
-        find_row(self.rows, address, id).is_some_and(|k| self.rows[k].on)
+        find_row(self.rows, pair).is_some_and(|k| self.rows[k].on)
     }
 
-    /// The row with that address and ID, if it is listed.
-    pub fn find(self, address: u8, id: [u8; 5]) -> Option<Named>
-        ensures { MatchOption result (listed self.entry.rows.now address id ≡ false) (λ n. (n.address.byte ≡ address) × (n.id.bytes ≡ id) × (listed self.entry.rows.now address id ≡ true)) }
+    /// The row that a pair names, if it is listed.
+    pub fn find(self, pair: Pair) -> Option<Named>
+        ensures { MatchOption result (listed self.entry.rows.now pair.address pair.id ≡ false) (λ n. (n.address.byte ≡ pair.address) × (n.id.bytes ≡ pair.id) × (listed self.entry.rows.now pair.address pair.id ≡ true)) }
     {
-        find_row(self.rows, address, id)?;
-        Named::new(address, id)
+        find_row(self.rows, pair)?;
+        Named::new(pair)
     }
 
     /// A copy of the rows, with room for the most that a listing has.
     pub fn copy(self) -> [Row; 64]
         ensures { take (length self.entry.rows.now) result ≡ self.entry.rows.now }
     {
-        let blank = Row {
-            address: 0,
-            id: [0; 5],
-            on: false,
-        };
-        let mut copy = [blank; 64];
+        let mut copy = [Row::default(); 64];
         copy[0..self.rows.len()].copy_from_slice(self.rows);
         copy
     }

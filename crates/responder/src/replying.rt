@@ -3,13 +3,12 @@ ghost use Rattle.std.specs.Prelude.{◌≡◌, ℕ, ◌+◌, ◌≤◌, List, le
 ghost use Rattle.message.specs.Messages.{encode};
 ghost use Rattle.message.specs.Sending.{profile_list};
 ghost use Rattle.message.specs.Writing.{Put};
-ghost use Rattle.responder.specs.Pens.{Puts, Room};
+ghost use Rattle.message.specs.Pens.{Puts, Room};
 ghost use Rattle.responder.specs.Steps.{lists_bytes, reply_there};
 
 use crate::calls::ROOM;
 use crate::listing::Listing;
-use crate::sending::Pen;
-use message::{Address, Muid, write_profile_reply};
+use message::{Address, Muid, Pen, write_profile_reply};
 
 /// Replies: of which rows they tell, from whom and to whom.
 #[derive(Clone, Copy)]

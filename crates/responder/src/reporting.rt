@@ -2,14 +2,14 @@
 ghost use Rattle.std.specs.Prelude.{◌≡◌, ℕ, ◌+◌, ◌≤◌, true, List, length};
 ghost use Rattle.message.specs.Rows.{ranged};
 ghost use Rattle.message.specs.Writing.{Put};
-ghost use Rattle.responder.specs.Pens.{Puts, Room};
+ghost use Rattle.message.specs.Pens.{Puts, Room};
 ghost use Rattle.responder.specs.Steps.{fall_there, falls, fell, put_off, reports_bytes};
 
 use crate::action::Named;
 use crate::calls::ROOM;
 use crate::listing::Listing;
-use crate::sending::{Pen, send};
-use message::{Muid, Row, Sent};
+use crate::sending::send;
+use message::{Muid, Pen, Row, Sent};
 
 /// Reports: the rows before and after a switch, the row that it named, and from whom. Few other rows were put off.
 #[derive(Clone, Copy)]
@@ -28,7 +28,7 @@ impl Reports<'_, '_> {
     {
         let Named { address, id } = self.named;
         let is_named = address.byte == row.address && id.bytes == row.id;
-        row.on && !is_named && !self.after.is_on(row.address, row.id)
+        row.on && !is_named && !self.after.is_on(row.pair())
     }
 
     /// Puts the Disabled Report of a row if it has fallen.
@@ -40,7 +40,7 @@ impl Reports<'_, '_> {
         if !self.has_fallen(row) {
             return;
         }
-        let Some(fallen) = Named::new(row.address, row.id) else {
+        let Some(fallen) = Named::new(row.pair()) else {
             return;
         };
         send(fallen.report(false), self.own, pen);
@@ -62,8 +62,7 @@ impl Reports<'_, '_> {
     {
         let mut pen = Pen { out: answer, at: 0 };
         self.put_fallen(&mut pen);
-        let Named { address, id } = self.named;
-        let on = self.after.is_on(address.byte, id.bytes);
+        let on = self.after.is_on(self.named.pair());
         send(self.named.report(on), self.own, &mut pen);
         pen.at
     }

@@ -1,20 +1,13 @@
-//! Answers of one or two messages, and the pen that writes answers.
+//! Answers of one or two messages.
 ghost use Rattle.std.specs.Prelude.{◌≡◌, ℕ, ◌+◌, ◌≤◌, List, [], ◌∷◌, length, Ok};
 ghost use Rattle.message.specs.Messages.{encode};
 ghost use Rattle.message.specs.Sending.{discover, invalidate, meant};
 ghost use Rattle.message.specs.Writing.{Put};
-ghost use Rattle.responder.specs.Pens.{Puts, Room};
+ghost use Rattle.message.specs.Pens.{Puts, Room};
 ghost use Rattle.responder.specs.Steps.{bytes, Sends};
 
 use crate::calls::ROOM;
-use message::{Identity, Muid, Sent, write};
-
-/// A buffer, and the place where the next message goes.
-#[derive(Drop)]
-pub(crate) struct Pen<'a> {
-    pub out: &'a mut [u8],
-    pub at: usize,
-}
+use message::{Identity, Muid, Pen, Sent, write};
 
 /// Puts a message of known length where there is room for it.
 pub(crate) fn send(sent: Sent, own: Muid, pen: &mut Pen<'_>)

@@ -17,5 +17,5 @@ returns c =
     let done : Written (encode m) c.args.out.now c.args.at (Ok c.put-4.new.self.at) c.put-4.new.self.out.now =
     written-whole (omega (arith, length-encode m, length-append (counted (part a true rows)) (counted (part a false rows)), c.count-on_count.ensures.ids, c.count-off_count.ensures.ids))
     (as_bytes (whole_parts SubId.ReplyToProfileInquiry a c.args.own.number c.args.to.number (counted (part a true rows)) (counted (part a false rows)))
-    (and_then c.put.ensures.bytes (and_then c.put-2.ensures.bytes (and_then c.put-3.ensures.bytes c.put-4.ensures.bytes)))) in
+    (and_then c.put.ensures.put (and_then c.put-2.ensures.put (and_then c.put-3.ensures.put c.put-4.ensures.put)))) in
     search (rules, done)

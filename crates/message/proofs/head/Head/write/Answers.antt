@@ -12,4 +12,4 @@ returns-clause-bytes c =
     let m = sends c.args.self.source.number c.args.self.address.byte c.args.self.sub_id c.args.self.destination.number (first ++ second) in
     written-whole (omega (arith, length-encode m, length-append first second))
     (as_bytes (whole_parts c.args.self.sub_id c.args.self.address.byte c.args.self.source.number c.args.self.destination.number first second)
-    (and_then c.put.ensures.bytes (and_then c.put-2.ensures.bytes (and_then c.put-3.ensures.bytes c.put-4.ensures.bytes))))
+    (and_then c.put.ensures.put (and_then c.put-2.ensures.put (and_then c.put-3.ensures.put c.put-4.ensures.put))))

@@ -1,4 +1,4 @@
-use Rattle.std.proofs.Common.{sym, refl, ap, arith}
+use Rattle.std.proofs.Common.{sym, refl, ap, arith, rules}
 use Rattle.std.proofs.lemmas.List.{at_drop_all}
 use Rattle.message.specs.Rows.{part}
 use Rattle.message.specs.Sending.{ids_of}
@@ -13,7 +13,7 @@ loop-k-preserved c =
       | then-stands_at w ↦
           let e = ap ids_of (part_taken c.args.self.address c.args.self.on c.args.self.rows.now c.loop-k.k (omega arith) (sym w.if-stands_at.ensures.value)) in
           rw w.pen-is (record {
-            bytes = left_more _ _ (left_as refl refl e c.loop-k.invariant.bytes) w.put.ensures.bytes;
+            bytes = left_more _ _ (left_as refl refl e c.loop-k.invariant.bytes) w.put.ensures.put;
             same_buffer = cc;
           })
       | else-stands_at w ↦
@@ -24,7 +24,7 @@ loop-k-preserved c =
           })
     ]
 
-pub returns-clause-bytes : goal.returns-clause-bytes
-returns-clause-bytes c =
+pub returns : goal.returns
+returns c =
     let e = ap ids_of (at_drop_all (part c.args.self.address c.args.self.on) c.args.self.rows.now c.loop-k.k (omega arith)) in
-    left-all c.requires (left_as refl refl e c.loop-k.invariant.bytes)
+    record { put = left-all c.requires (left_as refl refl e c.loop-k.invariant.bytes); same = search rules }

@@ -5,5 +5,5 @@ use Rattle.responder.proofs.listing.Listing.is_on.Goals as goal
 
 pub returns : goal.returns
 returns c =
-    found_on c.find_row.result c.args.self.rows.now c.args.address c.args.id _ (c.find_row.ensures.state c.args.self.sound.order no_row) c.is_some_and.ensures
+    found_on c.find_row.result c.args.self.rows.now c.args.pair.address c.args.pair.id _ (c.find_row.ensures.state c.args.self.sound.order no_row) c.is_some_and.ensures
     (λ k h. search rules)

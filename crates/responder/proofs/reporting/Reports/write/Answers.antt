@@ -1,4 +1,5 @@
-use Rattle.std.proofs.Common.{ap, arith}
+use Rattle.std.proofs.Common.{◌≡◌, ap, arith, subst}
+use Rattle.host.specs.Rows.{is_on, look}
 use Rattle.message.specs.Messages.{encode}
 use Rattle.message.proofs.Places.{and_then, as_bytes}
 use Rattle.responder.proofs.Reports.{falls-fit, reports_end}
@@ -26,5 +27,6 @@ send-requires c =
 pub returns : goal.returns
 returns c =
     let me = c.args.self in
-    as_bytes (reports_end me.own.number me.named.address.byte me.named.id.bytes me.before.rows.now me.after.rows.now c.is_on-on.result c.is_on-on.ensures)
+    let on = subst (λ p. c.is_on-on.result ≡ is_on (look me.after.rows.now p.address p.id)) c.pair.ensures c.is_on-on.ensures in
+    as_bytes (reports_end me.own.number me.named.address.byte me.named.id.bytes me.before.rows.now me.after.rows.now c.is_on-on.result on)
     (and_then c.put_fallen.ensures.put (as_bytes (ap encode (c.report.ensures me.own.number)) c.send.ensures.put))

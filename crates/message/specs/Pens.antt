@@ -1,7 +1,7 @@
 -- What a pen does to the buffer that it holds.
 use Rattle.std.specs.Prelude.{◌≡◌, ℕ, ◌+◌, ◌≤◌, List, length}
 use Rattle.message.specs.Writing.{Put}
-use Rattle.responder.specs.declared.sending.Pen.{Pen}
+use Rattle.message.specs.declared.pen.Pen.{Pen}
 
 -- there is room for these bytes
 abbrev pub Room : List ℕ → Pen → Type 0
