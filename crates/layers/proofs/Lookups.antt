@@ -1,9 +1,9 @@
 -- Rows of a listing by their places, and tests that some row passes.
-use Rattle.std.proofs.Common.{◌≡◌, ℕ, ◌<◌, Bool, true, false, ◌||◌, List, [], ◌∷◌, map, length, get_or, Some, refl, ap, ◌∙◌, ⊎_elim}
+use Rattle.std.proofs.Common.{◌≡◌, ℕ, ◌<◌, Bool, true, false, ◌||◌, List, [], ◌∷◌, map, length, get_or, Some, refl, ap, ◌∙◌}
 use Rattle.std.specs.List.{list_any}
 use Rattle.std.proofs.lemmas.List.{get_or_default}
 use Rattle.std.proofs.lemmas.List.Folds.{list_any_at}
-use Rattle.std.proofs.lemmas.Bool.{or_from, or_parts, both_ways, cases_Bool}
+use Rattle.std.proofs.lemmas.Bool.{or_from, or_parts, both_ways, false_from_ne_true}
 use Rattle.rising.specs.Lists.{Rising}
 use Rattle.rising.proofs.Lists.{found_stands}
 use Rattle.message.specs.Rows.{row_key}
@@ -20,11 +20,7 @@ look_at l k d up lt =
 
 module _ (p : Row → Bool) where
   pub none_at : (l : List Row) (k : ℕ) (d : Row) → list_any p l ≡ false → k < length l → p (get_or l k d) ≡ false
-  none_at l k d h lt =
-      ⊎_elim
-      (λ (t : (p (get_or l k d) ≡ true)). absurd (both_ways (list_any p l) h (list_any_at p l k d lt t)))
-      (λ (t : (p (get_or l k d) ≡ false)). t)
-      (cases_Bool (p (get_or l k d)))
+  none_at l k d h lt = false_from_ne_true _ (λ t. both_ways (list_any p l) h (list_any_at p l k d lt t))
 
   pub any_comp : (f : Row → Row) (l : List Row) → list_any p (map f l) ≡ list_any (λ r. p (f r)) l
   any_comp f [] = refl
@@ -35,6 +31,4 @@ pub any_less : (p q : Row → Bool) → ((r : Row) → q r ≡ true → p r ≡ 
 any_less p q h [] e = refl
 any_less p q h (r ∷ l) e =
     let n = or_parts (p r) (list_any p l) e in
-    or_from (q r) (list_any q l)
-    (⊎_elim (λ (t : (q r ≡ true)). absurd (both_ways (p r) n.0 (h r t))) (λ (t : (q r ≡ false)). t) (cases_Bool (q r)))
-    (any_less p q h l n.1)
+    or_from (q r) (list_any q l) (false_from_ne_true _ (λ t. both_ways (p r) n.0 (h r t))) (any_less p q h l n.1)

@@ -6,7 +6,7 @@ use Rattle.std.proofs.Math.Bool.{and-false}
 use Rattle.std.proofs.lemmas.List.{length-map, get_or-map, get_or_default, map-id}
 use Rattle.std.proofs.lemmas.List.Folds.{list_any_at}
 use Rattle.std.proofs.lemmas.Simd.{map-map}
-use Rattle.std.proofs.lemmas.Bool.{or_left, or_right, or_cases, or_parts, and_parts, and_from, and_left, and_right, not-true, not-false, not_from_false, eqb-true, both_ways, cases_Bool}
+use Rattle.std.proofs.lemmas.Bool.{or_left, or_right, or_cases, or_parts, and_parts, and_from, and_left, and_right, not-true, not-false, not_from_false, eqb-true, both_ways, cases_Bool, true_from_ne_false, false_from_ne_true}
 use Rattle.std.proofs.lemmas.Slice.Eq.{bytes_eq-Decides}
 use Rattle.rising.specs.Lists.{Rising}
 use Rattle.message.specs.Rows.{row_key}
@@ -102,12 +102,10 @@ module _ (ms : List Member) (l : List Row) (c : Consents) (f : Bool) (a : ℕ) (
       where
         here : (e : Row) → rival ms a i (get_or l k e) ≡ true → q.ids (get_or l k e).id ≡ true
         here e t =
-            ⊎_elim
-            (λ (y : (q.ids (get_or l k e).id ≡ true)). y)
-            (λ (n : (q.ids (get_or l k e).id ≡ false)).
+            true_from_ne_false _
+            (λ n.
             let is : get_or l' k e ≡ get_or l k e = cleared-row k e lk ∙ cleared-kept a q.ids (get_or l k e) n in
-            absurd (both_ways _ (ap (rival ms a i) (sym is ∙ get_or_default l' k e d (omega (arith, cleared_length))) ∙ h) t))
-            (cases_Bool (q.ids (get_or l k e).id))
+            both_ways _ (ap (rival ms a i) (sym is ∙ get_or_default l' k e d (omega (arith, cleared_length))) ∙ h) t)
 
     -- a rival is put off: a row that was on at the start, and that no earlier step put off
     pub cleared_turn : (d : Row) (l'' : List Row) (c'' : Consents) (f'' answer : Bool) → k < length l → Rising row_key l' → set_on ms l c a i ≡ true
@@ -187,11 +185,7 @@ module _ (ms : List Member) (l : List Row) (c : Consents) (f : Bool) (a : ℕ) (
   same-ids j =
       ⊎_elim
       (λ (t : (q.ids j ≡ true)). q.picks j t ∙ sym t)
-      (λ (n : (q.ids j ≡ false)).
-      ⊎_elim
-      (λ (t : (rivals ms l a i j ≡ true)). absurd (both_ways (q.ids j) n (all-off l q.front j t)))
-      (λ (t : (rivals ms l a i j ≡ false)). t ∙ sym n)
-      (cases_Bool (rivals ms l a i j)))
+      (λ (n : (q.ids j ≡ false)). false_from_ne_true _ (λ t. both_ways (q.ids j) n (all-off l q.front j t)) ∙ sym n)
       (cases_Bool (q.ids j))
 
   -- after the offs, the on below is the on of the layer
@@ -238,17 +232,11 @@ module _ (ms : List Member) (l : List Row) (c : Consents) (a : ℕ) (i : List �
       → (rival ms b j r && not (c.off b r.id)) ≡ true
   blocked-before b j r h =
       let p = and_parts _ _ h in
-      ⊎_elim
-      (λ (t : (same a i r ≡ true)). absurd (both_ways _ (rival-off ms b j (turned a i false names r) (turned-off a i names r t)) p.0))
-      (λ (n : (same a i r ≡ false)).
+      let n : same a i r ≡ false = false_from_ne_true _ (λ t. both_ways _ (rival-off ms b j (turned a i false names r) (turned-off a i names r t)) p.0) in
       let rx : rival ms b j r ≡ true = ap (rival ms b j) (sym (turned-other a i names r n)) ∙ p.0 in
       let v = rival-parts ms b j r rx in
       let away : (eqb a b && bytes_eq i r.id) ≡ false = subst (λ (m : ℕ). (eqb a m && bytes_eq i r.id) ≡ false) (sym (eqb-true b r.address v.here)) n in
-      ⊎_elim
-      (λ (o : (c.off b r.id ≡ true)). absurd (both_ways _ (not-true _ p.1) (K.off b r.id away o)))
-      (λ (o : (c.off b r.id ≡ false)). and_from _ _ rx (not_from_false _ o))
-      (cases_Bool (c.off b r.id)))
-      (cases_Bool (same a i r))
+      and_from _ _ rx (not_from_false _ (false_from_ne_true _ (λ o. both_ways _ (not-true _ p.1) (K.off b r.id away o))))
 
   kept_on : (b : ℕ) (j : List ℕ) → (eqb a b && bytes_eq i j) ≡ false → set_on ms l c b j ≡ true → set_on ms (map (turned a i false names) l) c' b j ≡ true
   kept_on b j ne y =
@@ -267,16 +255,13 @@ module _ (ms : List Member) (l : List Row) (c : Consents) (a : ℕ) (i : List �
       (λ (t : (same a i r ≡ true)).
       and_left _ _ (rival-off ms b j (turned a i false names r) (turned-off a i names r t))
       ∙ sym
-      (⊎_elim
-      (λ (y : ((rival ms b j r && bytes_eq m r.id) ≡ true)).
+      (false_from_ne_true _
+      (λ y.
       let u = and_parts _ _ y in
       let v = rival-parts ms b j r u.0 in
-      absurd
-      (both_ways _ nm
+      both_ways _ nm
       (subst (λ (n : List ℕ). (eqb a b && bytes_eq i n) ≡ true) (sym ((bytes_eq-Decides m r.id).0 u.1))
-      (subst (λ (n : ℕ). (eqb a n && bytes_eq i r.id) ≡ true) (sym (eqb-true b r.address v.here)) t))))
-      (λ (y : ((rival ms b j r && bytes_eq m r.id) ≡ false)). y)
-      (cases_Bool (rival ms b j r && bytes_eq m r.id))))
+      (subst (λ (n : ℕ). (eqb a n && bytes_eq i r.id) ≡ true) (sym (eqb-true b r.address v.here)) t)))))
       (λ (n : (same a i r ≡ false)). ap (λ (x : Row). rival ms b j x && bytes_eq m x.id) (turned-other a i names r n))
       (cases_Bool (same a i r))
 

@@ -3,7 +3,7 @@ use Rattle.std.specs.Prelude.{◌≡◌, ℕ, Bool, true, false, cond, ◌&&◌,
 use Rattle.std.specs.List.{list_any}
 use Rattle.std.proofs.Common.{sym, ap, subst, ⊎_elim}
 use Rattle.std.specs.Str.{bytes_eq}
-use Rattle.std.proofs.lemmas.Bool.{both_ways, and_parts, and_from, or_cases, not-true, cond-true, cases_Bool}
+use Rattle.std.proofs.lemmas.Bool.{both_ways, and_parts, and_from, or_cases, not-true, cond-true, false_from_ne_true}
 use Rattle.std.proofs.lemmas.Slice.Eq.{bytes_eq-Decides}
 use Rattle.message.specs.declared.row.Row.{Row}
 use Rattle.host.specs.Rows.{same, look, is_there, has}
@@ -49,11 +49,7 @@ rival-parts ms a i r h =
     record { here = x.0; on = y.0; joined = z.0; other = not-true _ z.1 }
 
 pub bytes_turn : (i j : List ℕ) → bytes_eq i j ≡ false → bytes_eq j i ≡ false
-bytes_turn i j h =
-    ⊎_elim
-    (λ (t : (bytes_eq j i ≡ true)). absurd (both_ways (bytes_eq i j) h ((bytes_eq-Decides i j).1 (sym ((bytes_eq-Decides j i).0 t)))))
-    (λ (t : (bytes_eq j i ≡ false)). t)
-    (cases_Bool (bytes_eq j i))
+bytes_turn i j h = false_from_ne_true _ (λ t. both_ways (bytes_eq i j) h ((bytes_eq-Decides i j).1 (sym ((bytes_eq-Decides j i).0 t))))
 
 -- the ID of a rival is that of another listed row
 rival-listed : (ms : List Member) (a : ℕ) (i j : List ℕ) (l : List Row) → list_any (λ r. rival ms a i r && bytes_eq j r.id) l ≡ true

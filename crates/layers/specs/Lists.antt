@@ -1,4 +1,4 @@
--- The lists that layers hold of their own: entries in range and in order, as the members of sets.
+-- The lists that layers hold of their own: when their entries are refused, and members of sets as entries.
 use Rattle.std.specs.Prelude.{◌≡◌, Bool, true, false, ◌&&◌, List, length, Ok, Err, Result, nat_le}
 use Rattle.std.specs.List.{list_all}
 use Rattle.rising.specs.Order.{Key}
