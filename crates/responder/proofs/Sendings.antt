@@ -53,10 +53,6 @@ pub two_send : (m n : Fields) (before mid after : List ℕ) (at end : ℕ) → P
 two_send m n before mid after at end p q =
     put-sends (bytes (m ∷ n ∷ [])) before after end (and_then p (as_bytes (sym (append-nil (encode n))) q))
 
--- no message
-pub nothing_sends : (before : List ℕ) → Sends (bytes []) before (Ok 0) before
-nothing_sends before = record { says = refl; rest = (omega arith, refl) }
-
 -- what a plan to send comes to
 pub done_send : {S : Type 0} (listing : S → List Row) (consents : S → Consents) (fixed : S → Bool) (keeps : S → S → Type 0) (plan : Plan) (ms : List Fields) (own : ℕ)
     (others : List ℕ) (s s' : State S) (before : List ℕ) (r : Result ℕ Refusal) (after : List ℕ) → plan ≡ send ms own others → Sends (bytes ms) before r after

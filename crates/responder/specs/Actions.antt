@@ -5,7 +5,7 @@ use Rattle.message.specs.Kinds.{least, kind}
 use Rattle.message.specs.Messages.{Fields}
 use Rattle.message.specs.Reading.{kind_of}
 use Rattle.message.specs.Shapes.{Shaped}
-use Rattle.message.specs.Sending.{discover, discover_reply, invalidate, nak_reply, profile_list}
+use Rattle.message.specs.Sending.{discover, discover_reply, invalidate, meant, profile_list}
 use Rattle.message.specs.declared.message.Message.{Message}
 use Rattle.message.specs.declared.identity.Identity.{Identity}
 use Rattle.message.specs.declared.refusal.Refusal.{Refusal}
@@ -15,7 +15,7 @@ use Rattle.numbers.specs.Device.{noted, forgotten, renewed}
 use Rattle.responder.specs.Inquiries.{heard}
 use Rattle.responder.specs.Plans.{Plan, refuse, send, turn, replied_at}
 use Rattle.responder.specs.declared.action.Action.{Action}
-use Rattle.responder.specs.declared.action.Action.TheVariants.{GiveUpNumber, ChooseNumber, Note, Forget, Nothing, Deny, Discovered, List as Lists, Switch}
+use Rattle.responder.specs.declared.action.Action.TheVariants.{GiveUpNumber, ChooseNumber, Note, Forget, Nothing, Send, Discovered, List as Lists, Switch}
 use Rattle.responder.specs.declared.action.Sorted.{Sorted}
 
 -- a heard message of version 0 or below its least length is not understood
@@ -34,7 +34,7 @@ module _ (d : Identity) (own : ℕ) (others : List ℕ) (l : List Row) (draw : �
   action_plan (Note number) = send [] own (noted own number others)
   action_plan (Forget number) = send [] own (forgotten number others)
   action_plan Nothing = send [] own others
-  action_plan (Deny to address sub status) = send (nak_reply own to.number address.byte sub status ∷ []) own others
+  action_plan (Send sent) = send (meant own sent ∷ []) own others
   action_plan (Discovered from path) = send (discover_reply d own from.number path ∷ []) own (noted own from.number others)
   action_plan (Lists to address) = send (map (λ a. profile_list own to.number a l) (replied_at l address.byte)) own others
   action_plan (Switch named on) = turn named.address.byte named.id.bytes on

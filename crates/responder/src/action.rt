@@ -3,7 +3,7 @@ ghost use Rattle.std.specs.Prelude.{◌≡◌, ℕ, false, MatchOption};
 ghost use Rattle.message.specs.Rows.{pair_ranged};
 ghost use Rattle.message.specs.Sending.{meant, report};
 
-use message::{Address, Muid, NakStatus, Pair, ProfileId, Sent};
+use message::{Address, Muid, Pair, ProfileId, Sent};
 
 /// A row by its address and Profile ID, both in range.
 #[derive(Clone, Copy)]
@@ -60,28 +60,14 @@ pub enum Action {
     Forget(u32),
     /// Nothing follows a message that is only heard.
     Nothing,
-    /// An inquiry fails a check.
-    Deny {
-        to: Muid,
-        address: Address,
-        sub_id: u8,
-        status: NakStatus,
-    },
+    /// One message is sent, as the NAK for an inquiry that fails a check.
+    Send(Sent),
     /// A device makes itself known.
-    Discovered {
-        from: Muid,
-        path: u8,
-    },
+    Discovered { from: Muid, path: u8 },
     /// A device asks for the profiles at an address.
-    List {
-        to: Muid,
-        address: Address,
-    },
+    List { to: Muid, address: Address },
     /// A device asks to switch a row.
-    Switch {
-        named: Named,
-        on: bool,
-    },
+    Switch { named: Named, on: bool },
 }
 
 /// How a message for us is sorted, before what it asks.

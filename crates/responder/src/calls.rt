@@ -105,32 +105,15 @@ impl<P: Host> Responder<P> {
                 0
             }
             Action::Nothing => 0,
-            Action::Deny {
-                to,
-                address,
-                sub_id,
-                status,
-            } => write_one(
-                Sent::Nak {
-                    to,
-                    address,
-                    sub_id,
-                    status,
-                },
-                own,
-                answer,
-            ),
+            Action::Send(sent) => write_one(sent, own, answer),
             Action::Discovered { from, path } => {
                 self.numbers.note(from.number);
-                write_one(
-                    Sent::DiscoveryReply {
-                        to: from,
-                        identity,
-                        path,
-                    },
-                    own,
-                    answer,
-                )
+                let reply = Sent::DiscoveryReply {
+                    to: from,
+                    identity,
+                    path,
+                };
+                write_one(reply, own, answer)
             }
             Action::List { to, address } => {
                 let listing = Listing::of(&self.host);

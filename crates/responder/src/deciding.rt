@@ -14,7 +14,8 @@ ghost use Rattle.responder.specs.Plans.{denying, inquiring, opened, refuse, send
 use crate::action::{Action, Sorted};
 use crate::listing::Listing;
 use message::{
-    Address, Content, Message, Muid, NakStatus, Pair, Refusal, least_length, muid_number, read,
+    Address, Content, Message, Muid, NakStatus, Pair, Refusal, Sent, least_length, muid_number,
+    read,
 };
 
 /// Whether a message is heard, and then which, or is an inquiry. One that is heard is refused if of version 0 or too short.
@@ -80,12 +81,12 @@ impl Inquiry<'_> {
         if m.sub_id == 0x70 && m.destination == Muid::broadcast().number {
             return Err(Refusal::NotUnderstood);
         }
-        Ok(Action::Deny {
+        Ok(Action::Send(Sent::Nak {
             to: self.to,
             address: Address::new(m.address).unwrap_or(Address::function_block()),
             sub_id: m.sub_id,
             status,
-        })
+        }))
     }
 
     /// What to do where it asks to switch a row.
