@@ -5,6 +5,8 @@
 mod body;
 mod collisions;
 mod draft;
+mod entry;
+mod kind;
 pub mod read;
 pub mod refusal;
 pub mod sheet;
