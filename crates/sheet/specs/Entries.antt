@@ -1,7 +1,9 @@
 -- Kinds of words by their numbers, and entries of two words.
-use Rattle.std.specs.Prelude.{ℕ, Bool, cond, ◌&&◌, length, ◌==◌, nat_le, nat_lt}
+use Rattle.std.specs.Prelude.{◌≡◌, ℕ, Bool, cond, Some, None, Option, Ok, Err, Result, ◌&&◌, length, ◌==◌, nat_le, nat_lt}
 use Rattle.message.specs.Rows.{row_key}
 use Rattle.layers.specs.Lists.{member_key, pair_key}
+use Rattle.message.specs.declared.refusal.Refusal.{Refusal}
+use Rattle.sheet.specs.declared.refusal.SheetRefusal.{SheetRefusal}
 use Rattle.sheet.specs.declared.kind.Kind.{Kind}
 use Rattle.sheet.specs.declared.kind.Kind.TheVariants.{First, Second, Third, Row, Rest, Member, Pair, End}
 use Rattle.sheet.specs.declared.entry.Entry.{Entry}
@@ -27,6 +29,11 @@ is_kind n = nat_le 1 n && nat_le n 8
 -- the entry of two words, of which the first tells the kind
 abbrev pub entry_of : (w v : ℕ) → Entry
 entry_of w v = cond (kind w == 4) (entry.Row (row_of w v)) (cond (kind w == 6) (entry.Member (member_of w v)) (entry.Pair (pair_of w v)))
+
+-- What the word n is judged: refused there for its fault, or, if it has none, taken as some x of which P is true.
+abbrev pub Judged : {X : Type 0} → (n : ℕ) → Option Refusal → (X → Type 0) → Result X SheetRefusal → Type 0
+Judged n fault P (Ok x) = (fault ≡ None) × P x
+Judged n fault P (Err e) = (fault ≡ Some e.refusal) × (e.word ≡ n)
 
 -- there is a slot for one more entry of its kind
 abbrev pub has_slot : Contents → Entry → Bool

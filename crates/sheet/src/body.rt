@@ -19,21 +19,21 @@ pub(crate) fn body(bytes: &[u8], mut draft: Draft) -> Result<Draft, SheetRefusal
     let mut last = Kind::Row;
     let mut n = 3;
     while let Some((word, after)) = split_word(left) {
-        let kind = draft.opening(n, last, word)?;
-        let then = split_word(after);
-        if kind == Kind::End {
-            return match then {
+        let opening = draft.opening(n, last, word)?;
+        let next = split_word(after);
+        if opening.kind == Kind::End {
+            return match next {
                 None => Ok(draft),
                 Some(_) => Err(SheetRefusal::new(Refusal::SheetOrder, n + 1)),
             };
         }
-        let Some((then, after)) = then else {
+        let Some((then, after)) = next else {
             return Err(SheetRefusal::new(Refusal::SheetOrder, n + 1));
         };
-        let entry = draft.ending(n + 1, kind, word, then)?;
+        let entry = draft.ending(n + 1, opening, then)?;
         draft.enter(entry);
         left = after;
-        last = kind;
+        last = opening.kind;
         n += 2;
     }
     Err(SheetRefusal::new(Refusal::SheetOrder, n))

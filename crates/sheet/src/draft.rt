@@ -1,19 +1,19 @@
 //! A sheet as far as it is read, and what is wrong with its next word.
-ghost use Rattle.std.specs.Prelude.{◌≡◌, ◌+◌, true, false, [], MatchOption, MatchResult, Some, None};
+ghost use Rattle.std.specs.Prelude.{◌≡◌, true, []};
 ghost use Rattle.host.specs.Rows.{tally};
 ghost use Rattle.sheet.specs.Contents.{after};
 ghost use Rattle.sheet.specs.Drafts.{contents};
-ghost use Rattle.sheet.specs.Words.{kind as number};
-ghost use Rattle.sheet.specs.Entries.{code, entry_of, has_slot, comes_last, with_entry};
-ghost use Rattle.sheet.specs.Reading.{follows, fits, room, opening, fits_end, ending};
+ghost use Rattle.sheet.specs.Entries.{code, entry_of, Judged, has_slot, comes_last, with_entry};
+ghost use Rattle.sheet.specs.Reading.{room, opening, fits_end, ending};
 
 use crate::entry::Entry;
 use crate::kind::Kind;
+use crate::opening::Opening;
 use crate::refusal::SheetRefusal;
 use crate::slots::Slots;
-use crate::word::{amount, first, fourth, third};
+use crate::word::{first, fourth, third};
 use layers::{Member, Pair};
-use message::{Address, Identity, Refusal, Row};
+use message::{Identity, Refusal, Row};
 use rising::Keyed;
 
 /// The identity, and the entries read so far.
@@ -42,35 +42,11 @@ fn comes_after<T: Keyed>(list: &[T], x: &T) -> bool
     }
 }
 
-// The kind of a word, if it may open an entry or end the sheet after an entry of the kind `last`.
-fn following(last: Kind, word: u32) -> Option<Kind>
-    ensures { MatchOption result (follows (code last) (number word) ≡ false) (λ k. (follows (code last) (number word) ≡ true) × (number word ≡ code k)) }
-{
-    let kind = Kind::of(word)?;
-    match kind {
-        Kind::Row | Kind::Member | Kind::Pair | Kind::End if last <= kind => Some(kind),
-        _ => None,
-    }
-}
-
-// Whether the address, the set or the count in the word `n` is in range.
-fn fits(n: usize, kind: Kind, word: u32) -> bool
-    requires { number word ≡ code kind }
-    ensures { result ≡ fits n word }
-{
-    match kind {
-        Kind::End => amount(word) as usize == n,
-        Kind::Member => (1..=8).contains(&first(word)),
-        _ => Address::new(first(word)).is_some(),
-    }
-}
-
 // Whether the second word of an entry has its 0, and a state that the entry may have.
-fn fits_end(kind: Kind, word: u32, then: u32) -> bool
-    requires { number word ≡ code kind }
-    ensures { result ≡ fits_end word «then» }
+fn fits_end(opening: Opening, then: u32) -> bool
+    ensures { result ≡ fits_end opening.word «then» }
 {
-    let most = match kind {
+    let most = match opening.kind {
         Kind::Row => 1,
         _ => 0,
     };
@@ -95,36 +71,34 @@ impl Draft {
         }
     }
 
-    // Whether there is a place for one more entry of the word's kind.
-    fn has_room(&self, kind: Kind, word: u32) -> bool
-        requires { number word ≡ code kind }
-        ensures { result ≡ room (contents self.now) word }
+    // Whether there is a place for what a word opens.
+    fn has_room(&self, opening: Opening) -> bool
+        ensures { result ≡ room (contents self.now) opening.word }
     {
-        match kind {
+        match opening.kind {
             Kind::End => true,
             Kind::Row => {
-                let rows = self.rows.as_slice();
-                rows.len() < 64 && tally(rows, first(word)) < 21
+                self.rows.has_room() && tally(self.rows.as_slice(), first(opening.word)) < 21
             }
-            Kind::Member => self.members.as_slice().len() < 16,
-            _ => self.pairs.as_slice().len() < 16,
+            Kind::Member => self.members.has_room(),
+            _ => self.pairs.has_room(),
         }
     }
 
-    // The kind of the word `n` as an entry's first or as the closing word, or what is wrong with it.
-    pub(crate) fn opening(&self, n: usize, last: Kind, word: u32) -> Result<Kind, SheetRefusal>
-        ensures { MatchResult result (λ k. (opening n (code last) (contents self.now) word ≡ None) × (number word ≡ code k)) (λ e. (opening n (code last) (contents self.now) word ≡ Some e.refusal) × (e.word ≡ n)) }
+    // The word `n` as an entry's first or as the closing word, or what is wrong with it.
+    pub(crate) fn opening(&self, n: usize, last: Kind, word: u32) -> Result<Opening, SheetRefusal>
+        ensures { Judged n (opening n (code last) (contents self.now) word) (λ o. o.word ≡ word) result }
     {
-        let Some(kind) = following(last, word) else {
+        let Some(opening) = Opening::after(last, word) else {
             return Err(SheetRefusal::new(Refusal::SheetOrder, n));
         };
-        if !fits(n, kind, word) {
+        if !opening.fits(n) {
             return Err(SheetRefusal::new(Refusal::FieldOutOfRange, n));
         }
-        if !self.has_room(kind, word) {
+        if !self.has_room(opening) {
             return Err(SheetRefusal::new(Refusal::NotRising, n));
         }
-        Ok(kind)
+        Ok(opening)
     }
 
     // Whether an entry comes after those of its kind.
@@ -142,20 +116,18 @@ impl Draft {
     pub(crate) fn ending(
         &self,
         n: usize,
-        kind: Kind,
-        word: u32,
+        opening: Opening,
         then: u32,
     ) -> Result<Entry, SheetRefusal>
-        requires { number word ≡ code kind }
-        ensures { MatchResult result (λ x. (ending (contents self.now) word «then» ≡ None) × (x ≡ entry_of word «then»)) (λ e. (ending (contents self.now) word «then» ≡ Some e.refusal) × (e.word ≡ n)) }
+        ensures { Judged n (ending (contents self.now) opening.word «then») (λ e. e ≡ entry_of opening.word «then») result }
     {
         if !Kind::Rest.is_of(then) {
             return Err(SheetRefusal::new(Refusal::SheetOrder, n));
         }
-        if !fits_end(kind, word, then) {
+        if !fits_end(opening, then) {
             return Err(SheetRefusal::new(Refusal::FieldOutOfRange, n));
         }
-        let entry = Entry::of(kind, word, then);
+        let entry = Entry::of(opening, then);
         if !self.comes_last(&entry) {
             return Err(SheetRefusal::new(Refusal::NotRising, n));
         }

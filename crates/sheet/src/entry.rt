@@ -1,10 +1,10 @@
 //! Entries of two words.
 ghost use Rattle.std.specs.Prelude.{◌≡◌};
-ghost use Rattle.sheet.specs.Words.{kind as number};
-ghost use Rattle.sheet.specs.Entries.{code, entry_of};
+ghost use Rattle.sheet.specs.Entries.{entry_of};
 ghost use Rattle.sheet.specs.Reading.{id_of};
 
 use crate::kind::Kind;
+use crate::opening::Opening;
 use crate::word::{first, fourth, second, third};
 use layers::{Member, Pair};
 use message::Row;
@@ -31,13 +31,13 @@ fn id_of(word: u32, then: u32) -> [u8; 5]
 }
 
 impl Entry {
-    // The entry that a word of this kind opens, and that `then` completes.
-    pub(crate) fn of(kind: Kind, word: u32, then: u32) -> Entry
-        requires { number word ≡ code kind }
-        ensures { result ≡ entry_of word «then» }
+    // The entry that a word opens, and that `then` completes.
+    pub(crate) fn of(opening: Opening, then: u32) -> Entry
+        ensures { result ≡ entry_of opening.word «then» }
     {
+        let word = opening.word;
         let id = id_of(word, then);
-        match kind {
+        match opening.kind {
             Kind::Row => Entry::Row(Row {
                 address: first(word),
                 id,

@@ -7,6 +7,7 @@ mod collisions;
 mod draft;
 mod entry;
 mod kind;
+mod opening;
 pub mod read;
 pub mod refusal;
 pub mod sheet;

@@ -1,5 +1,5 @@
 //! Entries in fixed slots, of which the first `count` are in use.
-ghost use Rattle.std.specs.Prelude.{◌≡◌, ◌<◌, [], ◌∷◌, ◌++◌, length};
+ghost use Rattle.std.specs.Prelude.{◌≡◌, ◌<◌, nat_lt, [], ◌∷◌, ◌++◌, length};
 
 use std::marker::Model;
 
@@ -36,6 +36,13 @@ impl<T: Copy, const N: usize> Slots<T, N> {
     {
         let all = &self.slots[..];
         &all[..self.count]
+    }
+
+    // Whether there is a slot for one more.
+    pub(crate) fn has_room(&self) -> bool
+        ensures { result ≡ nat_lt (length self.now) N }
+    {
+        self.count < N
     }
 
     pub(crate) fn push(&mut self, entry: T)
