@@ -1,5 +1,5 @@
 -- What is accepted is the layout of valid contents.
-use Rattle.std.proofs.Common.{◌≡◌, ℕ, ◌+◌, ◌*◌, ◌/◌, ◌%◌, ◌<◌, ◌≤◌, true, cond, ◌||◌, eqb, ltb, ◌⊎◌, List, [], ◌∷◌, ◌++◌, length, Some, None, Option, sym, refl, ap, ◌∙◌, subst, inl, inr, ⊎_elim, append_assoc, append-nil, arith, length-append}
+use Rattle.std.proofs.Common.{◌≡◌, ℕ, ◌+◌, ◌*◌, ◌/◌, ◌%◌, ◌<◌, ◌≤◌, true, cond, ◌&&◌, ◌||◌, eqb, ltb, ◌⊎◌, List, [], ◌∷◌, ◌++◌, length, Some, None, Option, sym, refl, ap, ◌∙◌, subst, inl, inr, ⊎_elim, append_assoc, append-nil, arith, length-append}
 use Rattle.std.proofs.lemmas.Bool.{and_parts, and_from, lt-ltb, ltb-true, leb-true, eqb-true, eq-eqb, ne_eqb, cases_eq, cond-true, cond-false}
 use Rattle.std.proofs.lemmas.Bool.Decides.{nat_tests}
 use Rattle.message.specs.declared.row.Row.{Row}
@@ -147,14 +147,13 @@ chosen k j x y h = cond-true _ _ _ (eq-eqb k j h)
 module _ (n last : ℕ) (c : Contents) (w v : ℕ) (ft : fits n w ≡ true) (rm : room c w ≡ true) (k5 : kind v ≡ 5) (fe : fits_end w v ≡ true) (up : rises c w v ≡ true) (o : Orderly c) (p : Placed last c) (le : last ≤ kind w) where
   grown-row : kind w ≡ 4 → Grown c w v (kind w) (entered c w v)
   grown-row k =
-      let n8 : kind w ≡ 8 → ⊥ = λ e. omega arith in
-      let n6 : kind w ≡ 6 → ⊥ = λ e. omega arith in
-      let f : is_address (first w) ≡ true = sym (choose (kind w) 8 _ _ n8 ∙ choose (kind w) 6 _ _ n6) ∙ ft in
-      let r = and_parts _ _ (sym (choose (kind w) 8 _ _ n8 ∙ chosen (kind w) 4 _ _ k) ∙ rm) in
-      let u : after row_key c.rows (row_of w v) ≡ true = sym (chosen (kind w) 4 _ _ k) ∙ up in
+      let f : is_address (first w) ≡ true = rw k at ft in
+      let q : (ltb (length c.rows) 64 && ltb (tally (first w) c.rows) 21) ≡ true = rw k at rm in
+      let r = and_parts _ _ q in
+      let u : after row_key c.rows (row_of w v) ≡ true = rw k at up in
       let e = and_parts _ _ fe in
-      let m : fourth v ≤ 1 = let z = leb-true _ _ e.1 in let q = chosen {X = ℕ} (kind w) 4 1 0 k in omega (arith, z, q) in
-      let d : entered c w v ≡ with_row c (row_of w v) = chosen (kind w) 4 _ _ k in
+      let m : fourth v ≤ 1 = leb-true _ 1 (rw k at e.1) in
+      let d : entered c w v ≡ with_row c (row_of w v) = rw k in
       let em = p.no_members (omega arith) in
       let ep = p.no_pairs (omega arith) in
       let b = row_back w v k k5 (eqb-true _ _ e.0) m in
@@ -167,14 +166,12 @@ module _ (n last : ℕ) (c : Contents) (w v : ℕ) (ft : fits n w ≡ true) (rm 
 
   grown-member : kind w ≡ 6 → Grown c w v (kind w) (entered c w v)
   grown-member k =
-      let n8 : kind w ≡ 8 → ⊥ = λ e. omega arith in
-      let n4 : kind w ≡ 4 → ⊥ = λ e. omega arith in
-      let f : is_set (first w) ≡ true = sym (choose (kind w) 8 _ _ n8 ∙ chosen (kind w) 6 _ _ k) ∙ ft in
-      let r : ltb (length c.members) 16 ≡ true = sym (choose (kind w) 8 _ _ n8 ∙ choose (kind w) 4 _ _ n4 ∙ chosen (kind w) 6 _ _ k) ∙ rm in
-      let u : after member_key c.members (member_of w v) ≡ true = sym (choose (kind w) 4 _ _ n4 ∙ chosen (kind w) 6 _ _ k) ∙ up in
+      let f : is_set (first w) ≡ true = rw k at ft in
+      let r : ltb (length c.members) 16 ≡ true = rw k at rm in
+      let u : after member_key c.members (member_of w v) ≡ true = rw k at up in
       let e = and_parts _ _ fe in
-      let m : fourth v ≤ 0 = let z = leb-true _ _ e.1 in let q = choose {X = ℕ} (kind w) 4 1 0 n4 in omega (arith, z, q) in
-      let d : entered c w v ≡ with_member c (member_of w v) = choose (kind w) 4 _ _ n4 ∙ chosen (kind w) 6 _ _ k in
+      let m : fourth v ≤ 0 = leb-true _ 0 (rw k at e.1) in
+      let d : entered c w v ≡ with_member c (member_of w v) = rw k in
       let ep = p.no_pairs (omega arith) in
       let b = member_back w v k k5 (eqb-true _ _ e.0) m in
       let grown : so_far (with_member c (member_of w v)) ≡ so_far c ++ (w ∷ v ∷ []) =
@@ -186,15 +183,12 @@ module _ (n last : ℕ) (c : Contents) (w v : ℕ) (ft : fits n w ≡ true) (rm 
 
   grown-pair : kind w ≡ 7 → Grown c w v (kind w) (entered c w v)
   grown-pair k =
-      let n8 : kind w ≡ 8 → ⊥ = λ e. omega arith in
-      let n4 : kind w ≡ 4 → ⊥ = λ e. omega arith in
-      let n6 : kind w ≡ 6 → ⊥ = λ e. omega arith in
-      let f : is_address (first w) ≡ true = sym (choose (kind w) 8 _ _ n8 ∙ choose (kind w) 6 _ _ n6) ∙ ft in
-      let r : ltb (length c.pairs) 16 ≡ true = sym (choose (kind w) 8 _ _ n8 ∙ choose (kind w) 4 _ _ n4 ∙ choose (kind w) 6 _ _ n6) ∙ rm in
-      let u : after pair_key c.pairs (pair_of w v) ≡ true = sym (choose (kind w) 4 _ _ n4 ∙ choose (kind w) 6 _ _ n6) ∙ up in
+      let f : is_address (first w) ≡ true = rw k at ft in
+      let r : ltb (length c.pairs) 16 ≡ true = rw k at rm in
+      let u : after pair_key c.pairs (pair_of w v) ≡ true = rw k at up in
       let e = and_parts _ _ fe in
-      let m : fourth v ≤ 0 = let z = leb-true _ _ e.1 in let q = choose {X = ℕ} (kind w) 4 1 0 n4 in omega (arith, z, q) in
-      let d : entered c w v ≡ with_pair c (pair_of w v) = choose (kind w) 4 _ _ n4 ∙ choose (kind w) 6 _ _ n6 in
+      let m : fourth v ≤ 0 = leb-true _ 0 (rw k at e.1) in
+      let d : entered c w v ≡ with_pair c (pair_of w v) = rw k in
       let b = pair_back w v k k5 (eqb-true _ _ e.0) m in
       let grown : so_far (with_pair c (pair_of w v)) ≡ so_far c ++ (w ∷ v ∷ []) =
       ap (λ (x : List ℕ). head_words c.identity c.block ++ (laid row_words c.rows ++ (laid member_words c.members ++ x))) (laid_push pair_words c.pairs (pair_of w v) ∙ ap (λ (x : List ℕ). laid pair_words c.pairs ++ x) b)
@@ -222,14 +216,14 @@ grown_one n last c w v h n8 q o p =
     (λ (e : (kind w ≡ 6) ⊎ (kind w ≡ 7)). ⊎_elim (grown-member n last c w v a.1 a.2 k5 b.1 b.2 o p s.0) (grown-pair n last c w v a.1 a.2 k5 b.1 b.2 o p s.0) e)
     s.1
 
-pub option_cases : (o : Option Refusal) → ((e : Refusal) × (o ≡ Some e)) ⊎ (o ≡ None)
+option_cases : (o : Option Refusal) → ((e : Refusal) × (o ≡ Some e)) ⊎ (o ≡ None)
 option_cases (Some e) = inl (e, refl)
 option_cases None = inr refl
 
-pub not_both : (e : Refusal) (n : ℕ) (c : Contents) → refused e n ≡ accepted c → ⊥
-not_both e n c h = let z : ◌≡◌ {A = ℕ} 0 1 = cc in omega arith
+not_both : (e : Refusal) (n : ℕ) (c : Contents) → refused e n ≡ accepted c → ⊥
+not_both e n c h = cc
 
-pub same-contents : (c d : Contents) → accepted c ≡ accepted d → c ≡ d
+same-contents : (c d : Contents) → accepted c ≡ accepted d → c ≡ d
 same-contents c d h = cc
 
 abbrev Ends : Contents → List ℕ → Contents → Type 0

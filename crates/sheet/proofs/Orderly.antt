@@ -1,10 +1,11 @@
 -- Ranges, limits and orders of contents, list by list; and rows of which no two collide, by their places.
-use Rattle.std.proofs.Common.{◌≡◌, ℕ, ◌<◌, ◌≤◌, Bool, true, false, List, [], length, get_or, take}
+use Rattle.std.proofs.Common.{◌≡◌, ℕ, ◌<◌, ◌≤◌, Bool, true, false, List, length, get_or, take}
 use Rattle.rising.specs.Lists.{rising}
 use Rattle.message.specs.Bytes.{sevens, is_block}
 use Rattle.message.specs.Rows.{row_key, ranged}
 use Rattle.message.specs.declared.row.Row.{Row}
 use Rattle.host.specs.Rows.{tally}
+use Rattle.host.specs.Tables.{blank}
 use Rattle.layers.specs.Lists.{every, member_key, member_ranged, pair_key, pair_ranged}
 use Rattle.layers.specs.declared.member.Member.{Member}
 use Rattle.sheet.specs.Contents.{Contents}
@@ -12,9 +13,6 @@ use Rattle.sheet.specs.Collisions.{collide, hit}
 
 abbrev pub row_ranged : Row → Bool
 row_ranged r = ranged r.address r.id
-
-abbrev pub blank : Row
-blank = record { address = 0; id = []; on = false }
 
 -- no two rows are on in one set at one address
 abbrev pub Apart : List Member → List Row → Type 0

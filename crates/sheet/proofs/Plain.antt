@@ -1,8 +1,11 @@
 -- Facts on words and lists that the functions rest on.
-use Rattle.std.proofs.Common.{Ordering, Less, Equal, Greater, is_lt, ◌≡◌, ℕ, suc, ◌+◌, ◌-◌, ◌*◌, ◌%◌, ◌<◌, ◌≤◌, Bool, true, false, cond, eqb, List, [], ◌∷◌, ◌++◌, length, get_or, take, drop, Some, None, Option, sym, refl, ap, ◌∙◌, arith, drop-cons}
+use Rattle.std.proofs.Common.{Ordering, Less, Equal, Greater, is_lt, ◌≡◌, ℕ, suc, ◌+◌, ◌-◌, ◌*◌, ◌%◌, ◌<◌, ◌≤◌, Bool, true, false, cond, eqb, ltb, List, [], ◌∷◌, ◌++◌, length, get_or, take, drop, Some, None, Option, sym, refl, ap, ◌∙◌, arith, drop-cons}
 use Rattle.std.specs.Str.{bytes_eq}
 use Rattle.std.specs.List.{filter, find}
+use Rattle.std.specs.Bool.{then_some}
+use Rattle.std.specs.Option.{MatchOption}
 use Rattle.std.specs.Int.{w32, from_be_bytes}
+use Rattle.std.proofs.lemmas.Bool.Decides.{nat_tests}
 use Rattle.std.proofs.lemmas.List.{take_more, drop_all}
 use Rattle.std.specs.Ordering.{MatchOrdering}
 use Rattle.rising.specs.Order.{Key, before, Before}
@@ -13,12 +16,10 @@ use Rattle.layers.specs.declared.member.Member.{Member}
 use Rattle.layers.specs.Sets.{set_of}
 use Rattle.sheet.specs.Collisions.{hit, clash}
 use Rattle.sheet.specs.Reading.{sized}
-use Rattle.std.proofs.lemmas.Bool.{cond-true, cond-false, and_from, le-leb, eq-eqb}
+use Rattle.std.proofs.lemmas.Bool.{ltb-true, cond-true, cond-false, and_from, le-leb, eq-eqb}
 use Rattle.host.specs.Rows.{tally}
+use Rattle.host.specs.Tables.{blank}
 use Rattle.sheet.specs.Contents.{after}
-
-abbrev pub no_row : Row
-no_row = record { address = 0; id = []; on = false }
 
 pub tally_filter : (a : ℕ) (rows : List Row) → length (filter (λ (r : Row). eqb a r.address) rows) ≡ tally a rows
 tally_filter a [] = refl
@@ -71,17 +72,24 @@ set_found (m ∷ ms) i = chosen (bytes_eq i m.id) (set_found ms i)
     chosen true h = refl
     chosen false h = h
 
+pub set_told : (n s : ℕ) → n ≡ s → MatchOption (then_some (ltb 0 s) s) (n ≡ 0) (λ x. (n ≡ x) × (0 < x))
+set_told n s e = told (ltb 0 s) (λ t. (e, ltb-true 0 s t)) (λ f. grind (arith, nat_tests))
+  where
+    told : (b : Bool) → (b ≡ true → (n ≡ s) × (0 < s)) → (b ≡ false → n ≡ 0) → MatchOption (then_some b s) (n ≡ 0) (λ x. (n ≡ x) × (0 < x))
+    told true p q = p refl
+    told false p q = q refl
+
 -- the pass over the rows, at the row k
 module _ (ms : List Member) (rows : List Row) (k : ℕ) where
-  clash-step : k < length rows → clash ms (3 + 2 * k) (take k rows) (drop k rows) ≡ cond (hit ms (get_or rows k no_row) (take k rows)) (Some (3 + 2 * k)) (clash ms (3 + 2 * k + 2) (take k rows ++ get_or rows k no_row ∷ []) (drop (suc k) rows))
-  clash-step l = ap (clash ms (3 + 2 * k) (take k rows)) (drop-cons rows k no_row l)
+  clash-step : k < length rows → clash ms (3 + 2 * k) (take k rows) (drop k rows) ≡ cond (hit ms (get_or rows k blank) (take k rows)) (Some (3 + 2 * k)) (clash ms (3 + 2 * k + 2) (take k rows ++ get_or rows k blank ∷ []) (drop (suc k) rows))
+  clash-step l = ap (clash ms (3 + 2 * k) (take k rows)) (drop-cons rows k blank l)
 
-  pub clash_here : k < length rows → hit ms (get_or rows k no_row) (take k rows) ≡ true → clash ms (3 + 2 * k) (take k rows) (drop k rows) ≡ Some (3 + 2 * k)
+  pub clash_here : k < length rows → hit ms (get_or rows k blank) (take k rows) ≡ true → clash ms (3 + 2 * k) (take k rows) (drop k rows) ≡ Some (3 + 2 * k)
   clash_here l h = clash-step l ∙ cond-true _ _ _ h
 
-  pub clash_past : k < length rows → hit ms (get_or rows k no_row) (take k rows) ≡ false → clash ms (3 + 2 * k) (take k rows) (drop k rows) ≡ clash ms (3 + 2 * (k + 1)) (take (k + 1) rows) (drop (k + 1) rows)
+  pub clash_past : k < length rows → hit ms (get_or rows k blank) (take k rows) ≡ false → clash ms (3 + 2 * k) (take k rows) (drop k rows) ≡ clash ms (3 + 2 * (k + 1)) (take (k + 1) rows) (drop (k + 1) rows)
   clash_past l h =
-      let t : take k rows ++ get_or rows k no_row ∷ [] ≡ take (k + 1) rows = sym (take_more rows k no_row l) in
+      let t : take k rows ++ get_or rows k blank ∷ [] ≡ take (k + 1) rows = sym (take_more rows k blank l) in
       let s : suc k ≡ k + 1 = omega arith in
       let n : 3 + 2 * k + 2 ≡ 3 + 2 * (k + 1) = omega arith in
       clash-step l ∙ cond-false _ _ _ h ∙ rw (t, s, n)

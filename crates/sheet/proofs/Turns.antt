@@ -1,5 +1,5 @@
 -- One turn of reading, at each of its ends.
-use Rattle.std.proofs.Common.{◌≡◌, ℕ, ◌+◌, Bool, true, false, cond, eqb, List, [], ◌∷◌, Some, None, Option, refl, ap, ◌∙◌, arith}
+use Rattle.std.proofs.Common.{◌≡◌, ℕ, ◌+◌, Bool, true, false, cond, eqb, List, [], ◌∷◌, Some, None, Option, refl, ap, ◌∙◌}
 use Rattle.std.proofs.lemmas.Bool.{eq-eqb, ne_eqb, cond-true, cond-false}
 use Rattle.message.specs.declared.refusal.Refusal.{Refusal}
 use Rattle.message.specs.declared.refusal.Refusal.TheVariants.{SheetOrder}
@@ -57,9 +57,9 @@ module _ (ws : List ℕ) (n last : ℕ) (c : Contents) (w : ℕ) (vs : List ℕ)
 
 pub fault-none : (order range rise : Bool) → fault order range rise ≡ None → (order ≡ true) × (range ≡ true) × (rise ≡ true)
 fault-none true true true h = (refl, refl, refl)
-fault-none true true false h = absurd (let z : ◌≡◌ {A = ℕ} 0 1 = cc in omega arith)
-fault-none true false rise h = absurd (let z : ◌≡◌ {A = ℕ} 0 1 = cc in omega arith)
-fault-none false range rise h = absurd (let z : ◌≡◌ {A = ℕ} 0 1 = cc in omega arith)
+fault-none true true false h = absurd cc
+fault-none true false rise h = absurd cc
+fault-none false range rise h = absurd cc
 
 -- and so there is a place for what it opens
 pub opening-room : (n last : ℕ) (c : Contents) (w : ℕ) → opening n last c w ≡ None → room c w ≡ true
@@ -67,4 +67,4 @@ opening-room n last c w h = (fault-none (follows last (kind w)) (fits n w) (room
 
 -- a refusal by its parts
 pub told_as : (e : SheetRefusal) (r : Refusal) (n : ℕ) → (e.refusal ≡ r) × (e.word ≡ n) → refused e.refusal e.word ≡ refused r n
-told_as e r n h = ap (λ (x : Refusal). refused x e.word) h.0 ∙ ap (refused r) h.1
+told_as e r n h = cc

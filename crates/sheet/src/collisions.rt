@@ -11,11 +11,7 @@ fn set_of(members: &[Member], id: [u8; 5]) -> Option<u8>
     ensures { MatchOption result (set_of members.now id ≡ 0) (λ s. (set_of members.now id ≡ s) × (0 < s)) }
 {
     let member = members.iter().find(|member| id == member.id)?;
-    if member.set > 0 {
-        Some(member.set)
-    } else {
-        None
-    }
+    (member.set > 0).then_some(member.set)
 }
 
 // Whether two IDs are in one set.

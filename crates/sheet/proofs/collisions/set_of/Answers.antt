@@ -1,9 +1,10 @@
-use Rattle.std.proofs.Common.{◌≡◌, sym, ap, ◌∙◌, arith, rules, tests}
+use Rattle.std.proofs.Common.{◌≡◌, sym, ap, ◌∙◌, rules, tests}
 use Rattle.std.specs.Str.{bytes_eq}
 use Rattle.std.proofs.lemmas.Iterator.{YieldsList-from_slice}
 use Rattle.std.proofs.lemmas.Iterator.Search.{find_from_yields_List}
 use Rattle.layers.specs.declared.member.Member.{Member}
-use Rattle.sheet.proofs.Plain.{set_in, set_found}
+use Rattle.layers.specs.Sets.{set_of}
+use Rattle.sheet.proofs.Plain.{set_in, set_found, set_told}
 use Rattle.sheet.proofs.collisions.set_of.Goals as goal
 
 pub returns-in_err-member : goal.returns-in_err-member
@@ -12,15 +13,9 @@ returns-in_err-member c =
     let w = c.in_err-member.was in
     rw (c.from_residual.ensures) (set_found c.args.members.now c.args.id ∙ ap set_in (sym e) ∙ rw w)
 
-pub returns-then-member-gt0 : goal.returns-then-member-gt0
-returns-then-member-gt0 c =
+pub returns : goal.returns
+returns c =
     let e = find_from_yields_List (λ (m : Member). bytes_eq c.args.id m.id) _ _ c.find.result c.find.ensures.ran (YieldsList-from_slice c.args.members.now cc) (λ x b q k. search (rules, tests)) in
     let w = c.in_ok-member.was in
-    (set_found c.args.members.now c.args.id ∙ ap set_in (sym e) ∙ rw w, omega arith)
-
-pub returns-else-member-gt0 : goal.returns-else-member-gt0
-returns-else-member-gt0 c =
-    let e = find_from_yields_List (λ (m : Member). bytes_eq c.args.id m.id) _ _ c.find.result c.find.ensures.ran (YieldsList-from_slice c.args.members.now cc) (λ x b q k. search (rules, tests)) in
-    let w = c.in_ok-member.was in
-    let z : c.in_ok-member.member.now.set ≡ 0 = omega arith in
-    set_found c.args.members.now c.args.id ∙ ap set_in (sym e) ∙ (rw w z)
+    let z : set_of c.args.members.now c.args.id ≡ c.in_ok-member.member.now.set = set_found c.args.members.now c.args.id ∙ ap set_in (sym e) ∙ rw w in
+    rw (c.then_some.ensures) (set_told _ _ z)
