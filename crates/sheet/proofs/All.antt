@@ -9,7 +9,7 @@ use Rattle.message.specs.declared.refusal.Refusal.{Refusal}
 use Rattle.layers.specs.declared.pair.Pair.{Pair}
 use Rattle.sheet.specs.Words.{kind, first, third, fourth, amount, word}
 use Rattle.message.specs.Bytes.{is_address}
-use Rattle.message.specs.Rows.{row_key}
+use Rattle.message.specs.Rows.{row_key, all_ranged}
 use Rattle.host.specs.Rows.{tally}
 use Rattle.layers.specs.Lists.{member_key, pair_key}
 use Rattle.sheet.specs.Contents.{Contents, is_set, after}
@@ -84,50 +84,36 @@ pair_same a a' i i' p q = λ t. record { address = p t; id = q t }
 
 -- the two words of an entry, and what is read after them
 module _ (n last : ℕ) (c : Contents) (w v : ℕ) (ws : List ℕ) where
+  turned : (k : ℕ) (d : Contents) → kind w ≡ k → (k ≡ 8 → ⊥) → follows last k ≡ true → fits n w ≡ true → room c w ≡ true → kind v ≡ 5 → fits_end w v ≡ true → rises c w v ≡ true → entered c w v ≡ d
+      → body n last c (w ∷ v ∷ ws) ≡ body (n + 2) k d ws
+  turned k d e n8 ord ran roo five fin ris ent =
+      step n last c w v ws (no_fault _ _ _ (ap (follows last) e ∙ ord) ran roo) (λ h. n8 (sym e ∙ h)) (no_fault _ _ _ (eq-eqb _ _ five) fin ris)
+      ∙ (λ t. body (n + 2) (e t) (ent t) ws)
+
   row_turn : (r : Row) → Parts 4 r.address r.id (cond r.on 1 0) w v → last ≤ 4 → is_address r.address ≡ true → length c.rows < 64 → tally r.address c.rows < 21 → after row_key c.rows r ≡ true
       → body n last c (w ∷ v ∷ ws) ≡ body (n + 2) 4 (with_row c r) ws
   row_turn r p le g l t u =
-      let n8 : kind w ≡ 8 → ⊥ = λ e. let q = p.kind_is in omega (arith, e, q) in
       let same : row_of w v ≡ r = row_same _ _ _ _ _ _ p.head_is p.id_is (ap (λ (x : ℕ). eqb x 1) p.mark_is ∙ mark_on r.on) in
-      let ord : follows last (kind w) ≡ true = rw p.kind_is (and_from (leb last 4) true (le-leb last 4 le) refl) in
-      let ran : fits n w ≡ true = rw (p.kind_is, p.head_is) g in
-      let roo : room c w ≡ true = rw (p.kind_is, p.head_is) (and_from _ _ (lt-ltb _ _ l) (lt-ltb _ _ t)) in
-      let fin : fits_end w v ≡ true = rw (p.kind_is, p.zero_is, p.mark_is) (le-leb (cond r.on 1 0) 1 (mark_low r.on)) in
-      let ris : rises c w v ≡ true = rw p.kind_is (ap (after row_key c.rows) same ∙ u) in
-      let ent : entered c w v ≡ with_row c r = rw p.kind_is (ap (with_row c) same) in
-      step n last c w v ws (no_fault _ _ _ ord ran roo) n8 (no_fault _ _ _ (eq-eqb _ _ p.end_is) fin ris)
-      ∙ ap (λ (x : Contents). body (n + 2) (kind w) x ws) ent
-      ∙ ap (λ (x : ℕ). body (n + 2) x (with_row c r) ws) p.kind_is
+      turned 4 (with_row c r) p.kind_is (λ e. omega (arith, e)) (and_from (leb last 4) true (le-leb last 4 le) refl)
+      (rw (p.kind_is, p.head_is) g) (rw (p.kind_is, p.head_is) (and_from _ _ (lt-ltb _ _ l) (lt-ltb _ _ t)))
+      p.end_is (rw (p.kind_is, p.zero_is, p.mark_is) (le-leb (cond r.on 1 0) 1 (mark_low r.on)))
+      (rw p.kind_is (ap (after row_key c.rows) same ∙ u)) (rw p.kind_is (ap (with_row c) same))
 
   member_turn : (r : Member) → Parts 6 r.set r.id 0 w v → last ≤ 6 → is_set r.set ≡ true → length c.members < 16 → after member_key c.members r ≡ true
       → body n last c (w ∷ v ∷ ws) ≡ body (n + 2) 6 (with_member c r) ws
   member_turn r p le g l u =
-      let n8 : kind w ≡ 8 → ⊥ = λ e. let q = p.kind_is in omega (arith, e, q) in
       let same : member_of w v ≡ r = member_same _ _ _ _ p.head_is p.id_is in
-      let ord : follows last (kind w) ≡ true = rw p.kind_is (and_from (leb last 6) true (le-leb last 6 le) refl) in
-      let ran : fits n w ≡ true = rw (p.kind_is, p.head_is) g in
-      let roo : room c w ≡ true = rw p.kind_is (lt-ltb _ _ l) in
-      let fin : fits_end w v ≡ true = rw (p.kind_is, p.zero_is, p.mark_is) in
-      let ris : rises c w v ≡ true = rw p.kind_is (ap (after member_key c.members) same ∙ u) in
-      let ent : entered c w v ≡ with_member c r = rw p.kind_is (ap (with_member c) same) in
-      step n last c w v ws (no_fault _ _ _ ord ran roo) n8 (no_fault _ _ _ (eq-eqb _ _ p.end_is) fin ris)
-      ∙ ap (λ (x : Contents). body (n + 2) (kind w) x ws) ent
-      ∙ ap (λ (x : ℕ). body (n + 2) x (with_member c r) ws) p.kind_is
+      turned 6 (with_member c r) p.kind_is (λ e. omega (arith, e)) (and_from (leb last 6) true (le-leb last 6 le) refl)
+      (rw (p.kind_is, p.head_is) g) (rw p.kind_is (lt-ltb _ _ l)) p.end_is (rw (p.kind_is, p.zero_is, p.mark_is))
+      (rw p.kind_is (ap (after member_key c.members) same ∙ u)) (rw p.kind_is (ap (with_member c) same))
 
   pair_turn : (r : Pair) → Parts 7 r.address r.id 0 w v → last ≤ 7 → is_address r.address ≡ true → length c.pairs < 16 → after pair_key c.pairs r ≡ true
       → body n last c (w ∷ v ∷ ws) ≡ body (n + 2) 7 (with_pair c r) ws
   pair_turn r p le g l u =
-      let n8 : kind w ≡ 8 → ⊥ = λ e. let q = p.kind_is in omega (arith, e, q) in
       let same : pair_of w v ≡ r = pair_same _ _ _ _ p.head_is p.id_is in
-      let ord : follows last (kind w) ≡ true = rw p.kind_is (and_from (leb last 7) true (le-leb last 7 le) refl) in
-      let ran : fits n w ≡ true = rw (p.kind_is, p.head_is) g in
-      let roo : room c w ≡ true = rw p.kind_is (lt-ltb _ _ l) in
-      let fin : fits_end w v ≡ true = rw (p.kind_is, p.zero_is, p.mark_is) in
-      let ris : rises c w v ≡ true = rw p.kind_is (ap (after pair_key c.pairs) same ∙ u) in
-      let ent : entered c w v ≡ with_pair c r = rw p.kind_is (ap (with_pair c) same) in
-      step n last c w v ws (no_fault _ _ _ ord ran roo) n8 (no_fault _ _ _ (eq-eqb _ _ p.end_is) fin ris)
-      ∙ ap (λ (x : Contents). body (n + 2) (kind w) x ws) ent
-      ∙ ap (λ (x : ℕ). body (n + 2) x (with_pair c r) ws) p.kind_is
+      turned 7 (with_pair c r) p.kind_is (λ e. omega (arith, e)) (and_from (leb last 7) true (le-leb last 7 le) refl)
+      (rw (p.kind_is, p.head_is) g) (rw p.kind_is (lt-ltb _ _ l)) p.end_is (rw (p.kind_is, p.zero_is, p.mark_is))
+      (rw p.kind_is (ap (after pair_key c.pairs) same ∙ u)) (rw p.kind_is (ap (with_pair c) same))
 
 row_step : (n : ℕ) (c : Contents) (r : Row) (ws : List ℕ) → row_ranged r ≡ true → length c.rows < 64 → tally r.address c.rows < 21 → after row_key c.rows r ≡ true → body n 4 c (row_words r ++ ws) ≡ body (n + 2) 4 (with_row c r) ws
 row_step n c r ws g l t u =
@@ -157,13 +143,13 @@ tallied seen r rs h = let q = tally_more_than r.address seen r rs refl in let s 
 
 module _ (ids : List ℕ) (b : ℕ) (rest : List ℕ) (x : Outcome) where
   -- what is read after all rows is what is read before them
-  pub rows_read : (rs seen : List Row) (n : ℕ) → every row_ranged rs ≡ true → Rising row_key (seen ++ rs) → length (seen ++ rs) ≤ 64 → ((a : ℕ) → tally a (seen ++ rs) ≤ 21)
+  pub rows_read : (rs seen : List Row) (n : ℕ) → all_ranged rs ≡ true → Rising row_key (seen ++ rs) → length (seen ++ rs) ≤ 64 → ((a : ℕ) → tally a (seen ++ rs) ≤ 21)
       → body (n + 2 * length rs) 4 (made ids b (seen ++ rs) [] []) rest ≡ x → body n 4 (made ids b seen [] []) (laid row_words rs ++ rest) ≡ x
   rows_read [] seen n g u l t h =
       let e : n + 2 * 0 ≡ n = omega arith in
       ap (λ (k : ℕ). body k 4 (made ids b seen [] []) rest) (sym e) ∙ ap (λ (s : List Row). body (n + 2 * 0) 4 (made ids b s [] []) rest) (sym (append-nil seen)) ∙ h
   rows_read (r ∷ rs) seen n g u l t h =
-      let gs = and_parts (row_ranged r) (every row_ranged rs) g in
+      let gs = and_parts (row_ranged r) (all_ranged rs) g in
       let a : (seen ++ r ∷ []) ++ rs ≡ seen ++ r ∷ rs = append_assoc seen (r ∷ []) rs in
       let m : n + 2 + 2 * length rs ≡ n + 2 * length (r ∷ rs) = omega arith in
       let ih = rows_read rs (seen ++ r ∷ []) (n + 2) gs.1 (rw a u) (rw a l) (λ k. rw a (t k)) (rw (a, m) h) in

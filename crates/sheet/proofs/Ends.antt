@@ -3,7 +3,7 @@ use Rattle.std.proofs.Common.{◌≡◌, ℕ, ◌+◌, ◌*◌, ◌%◌, ◌<◌
 use Rattle.std.proofs.lemmas.Bool.{and_parts, eqb-true, cases_Bool, cond-true, cond-false}
 use Rattle.message.specs.declared.refusal.Refusal.TheVariants.{SheetLength}
 use Rattle.sheet.specs.Words.{kind, first, second, third, fourth, word, words}
-use Rattle.message.specs.Bytes.{is_block}
+use Rattle.message.specs.Bytes.{is_identity, is_block}
 use Rattle.sheet.specs.Contents.{Contents}
 use Rattle.sheet.specs.Collisions.{clash}
 use Rattle.sheet.specs.Layout.{laid, row_words, member_words, pair_words, so_far, layout, flat}
@@ -46,19 +46,11 @@ header_tests true true true true c d h = (refl, refl, refl, refl, cc)
 
 headed_orderly : (u v w : ℕ) → is_block (fourth w) ≡ true → Orderly (headed u v w)
 headed_orderly u v w b = record {
-  eleven = refl;
-  low = identity_low u v w;
+  identity = identity_low u v w;
   block = b;
-  rows = refl;
-  rows_rise = refl;
-  rows_few = omega arith;
-  rows_at = λ a. omega arith;
-  members = refl;
-  members_rise = refl;
-  members_few = omega arith;
-  pairs = refl;
-  pairs_rise = refl;
-  pairs_few = omega arith;
+  rows = record { few = omega arith; each = λ a. omega arith; ranges = refl; order = refl };
+  members = record { ranges = refl; order = refl; few = omega arith };
+  pairs = record { ranges = refl; order = refl; few = omega arith };
 }
 
 headed_back : (u v w : ℕ) → kind u ≡ 1 → kind v ≡ 2 → kind w ≡ 3 → so_far (headed u v w) ≡ u ∷ v ∷ w ∷ []
@@ -97,14 +89,15 @@ block-low : (b : ℕ) → is_block b ≡ true → b < 128
 block-low b h = grind (arith, nat_tests)
 
 -- the first three words of a layout read as identity and Function Block
-header_of : (i : List ℕ) (b : ℕ) → length i ≡ 11 → sevens i ≡ true → is_block b ≡ true
+header_of : (i : List ℕ) (b : ℕ) → is_identity i ≡ true → is_block b ≡ true
     → header (word 1 (get_or i 0 0) (get_or i 1 0) (get_or i 2 0) (get_or i 3 0)) (word 2 (get_or i 4 0) (get_or i 5 0) (get_or i 6 0) (get_or i 7 0)) (word 3 (get_or i 8 0) (get_or i 9 0) (get_or i 10 0) b) ≡ accepted (made i b [] [] [])
-header_of i b eleven lows block =
-    let low = low-at i lows in
+header_of i b good block =
+    let g = and_parts (eqb (length i) 11) _ good in
+    let low = low-at i g.1 in
     let u = fields 1 (get_or i 0 0) (get_or i 1 0) (get_or i 2 0) (get_or i 3 0) (low 0) (low 1) (low 2) (low 3) in
     let v = fields 2 (get_or i 4 0) (get_or i 5 0) (get_or i 6 0) (get_or i 7 0) (low 4) (low 5) (low 6) (low 7) in
     let w = fields 3 (get_or i 8 0) (get_or i 9 0) (get_or i 10 0) b (low 8) (low 9) (low 10) (block-low b block) in
-    let ids = same-eleven u.first_is u.second_is u.third_is u.fourth_is v.first_is v.second_is v.third_is v.fourth_is w.first_is w.second_is w.third_is ∙ eleven-of i eleven in
+    let ids = same-eleven u.first_is u.second_is u.third_is u.fourth_is v.first_is v.second_is v.third_is v.fourth_is w.first_is w.second_is w.third_is ∙ eleven-of i (eqb-true _ 11 g.0) in
     header_good _ _ _ u.kind_is v.kind_is w.kind_is (ap is_block w.fourth_is ∙ block) ∙ headed_as _ _ _ i b ids w.fourth_is
 
 laid-count : {X : Type 0} (f : X → List ℕ) → ((x : X) → length (f x) ≡ 2) → (xs : List X) → length (laid f xs) ≡ 2 * length xs
@@ -127,13 +120,13 @@ so_far-count c =
 body-all : (c : Contents) → Orderly c → body 3 4 (made c.identity c.block [] [] []) (laid row_words c.rows ++ (laid member_words c.members ++ (laid pair_words c.pairs ++ ((8 * 268435456 + length (so_far c)) ∷ [])))) ≡ accepted c
 body-all c o =
     let n = so_far-count c in
-    let few = o.rows_few in
-    let few2 = o.members_few in
-    let few3 = o.pairs_few in
+    let few = o.rows.few in
+    let few2 = o.members.few in
+    let few3 = o.pairs.few in
     let cl : List ℕ = (8 * 268435456 + length (so_far c)) ∷ [] in
-    rows_read c.identity c.block (laid member_words c.members ++ (laid pair_words c.pairs ++ cl)) (accepted c) c.rows [] 3 o.rows o.rows_rise o.rows_few o.rows_at
-    (members_read c.identity c.block (laid pair_words c.pairs ++ cl) (accepted c) c.rows c.members [] (3 + 2 * length c.rows) 4 (omega arith) o.members o.members_rise o.members_few
-    (λ k le. pairs_read c.identity c.block cl (accepted c) c.rows c.members c.pairs [] (3 + 2 * length c.rows + 2 * length c.members) k (omega arith) o.pairs o.pairs_rise o.pairs_few
+    rows_read c.identity c.block (laid member_words c.members ++ (laid pair_words c.pairs ++ cl)) (accepted c) c.rows [] 3 o.rows.ranges o.rows.order o.rows.few o.rows.each
+    (members_read c.identity c.block (laid pair_words c.pairs ++ cl) (accepted c) c.rows c.members [] (3 + 2 * length c.rows) 4 (omega arith) o.members.ranges o.members.order o.members.few
+    (λ k le. pairs_read c.identity c.block cl (accepted c) c.rows c.members c.pairs [] (3 + 2 * length c.rows + 2 * length c.members) k (omega arith) o.pairs.ranges o.pairs.order o.pairs.few
     (λ j lf. subst (λ (x : ℕ). body x j c cl ≡ accepted c) n (closed (length (so_far c)) j c lf (omega (arith, n, few, few2, few3))))))
 
 words-all : (c : Contents) → Orderly c → reads_words (layout c) ≡ accepted c
@@ -143,7 +136,7 @@ words-all c o =
     let p = laid pair_words c.pairs in
     let cl : List ℕ = (8 * 268435456 + length (so_far c)) ∷ [] in
     let e : (r ++ (m ++ p)) ++ cl ≡ r ++ (m ++ (p ++ cl)) = simp append_assoc in
-    let h = header_of c.identity c.block o.eleven o.low o.block in
+    let h = header_of c.identity c.block o.identity o.block in
     ap (λ (x : Outcome). continued x ((r ++ (m ++ p)) ++ cl)) h
     ∙ ap (body 3 4 (made c.identity c.block [] [] [])) e
     ∙ body-all c o
@@ -154,9 +147,9 @@ all_these c valid =
     let n = so_far-count c in
     let m = length-append (so_far c) ((8 * 268435456 + length (so_far c)) ∷ []) in
     let f = flat-count (layout c) in
-    let few = o.rows_few in
-    let few2 = o.members_few in
-    let few3 = o.pairs_few in
+    let few = o.rows.few in
+    let few2 = o.members.few in
+    let few3 = o.pairs.few in
     let z : length (layout c) ≡ length (so_far c) + 1 = m in
     let s : sized (length (flat (layout c))) ≡ true = sized_true (length (flat (layout c))) (omega (arith, n, z, f)) (omega (arith, n, z, f, few, few2, few3)) (omega (arith, f)) in
     cond-true _ _ _ s

@@ -1,7 +1,8 @@
 -- What is accepted is the layout of valid contents.
-use Rattle.std.proofs.Common.{◌≡◌, ℕ, ◌+◌, ◌*◌, ◌/◌, ◌%◌, ◌<◌, ◌≤◌, true, cond, ◌&&◌, ◌||◌, eqb, ltb, ◌⊎◌, List, [], ◌∷◌, ◌++◌, length, Some, None, Option, sym, refl, ap, ◌∙◌, subst, inl, inr, ⊎_elim, append_assoc, append-nil, arith, length-append}
+use Rattle.std.proofs.Common.{◌≡◌, ℕ, ◌+◌, ◌*◌, ◌/◌, ◌%◌, ◌<◌, ◌≤◌, Bool, true, cond, ◌&&◌, ◌||◌, eqb, ltb, ◌⊎◌, List, [], ◌∷◌, ◌++◌, length, Some, None, Option, sym, refl, ap, ◌∙◌, subst, inl, inr, ⊎_elim, append_assoc, append-nil, arith, length-append}
 use Rattle.std.proofs.lemmas.Bool.{and_parts, and_from, lt-ltb, ltb-true, leb-true, eqb-true, eq-eqb, ne_eqb, cases_eq, cond-true, cond-false}
 use Rattle.std.proofs.lemmas.Bool.Decides.{nat_tests}
+use Rattle.std.proofs.lemmas.List.Recursion.{and_push}
 use Rattle.message.specs.declared.row.Row.{Row}
 use Rattle.layers.specs.declared.member.Member.{Member}
 use Rattle.message.specs.declared.refusal.Refusal.{Refusal}
@@ -9,17 +10,18 @@ use Rattle.message.specs.declared.refusal.Refusal.TheVariants.{SheetOrder}
 use Rattle.layers.specs.declared.pair.Pair.{Pair}
 use Rattle.sheet.specs.Words.{kind, first, second, third, fourth, amount, word}
 use Rattle.message.specs.Bytes.{is_address}
-use Rattle.message.specs.Rows.{row_key}
-use Rattle.host.specs.Rows.{tally}
+use Rattle.rising.specs.Order.{Key}
+use Rattle.message.specs.Rows.{row_key, all_ranged}
+use Rattle.host.specs.Rows.{tally, Sound}
 use Rattle.layers.specs.Lists.{member_key, pair_key}
 use Rattle.sheet.specs.Contents.{Contents, is_set, after}
 use Rattle.sheet.specs.Layout.{laid, row_words, member_words, pair_words, head_words, so_far, layout}
 use Rattle.message.specs.Bytes.{is_id}
-use Rattle.layers.specs.Lists.{member_ranged, pair_ranged}
-use Rattle.sheet.proofs.Orderly.{row_ranged, Orderly}
+use Rattle.layers.specs.Lists.{every, member_ranged, pair_ranged}
+use Rattle.sheet.proofs.Orderly.{row_ranged, Fit, Orderly}
 use Rattle.sheet.specs.Reading.{accepted, refused, follows, fits, room, opening, id_of, row_of, member_of, pair_of, fits_end, rises, ending, with_row, with_member, with_pair, entered, judged, body}
 use Rattle.sheet.proofs.Turns.{fault-none, refused_here, at_last, at_two}
-use Rattle.sheet.proofs.Parts.{from_parts, from_amount, laid_push, every_push, rising_after, tally_push}
+use Rattle.sheet.proofs.Parts.{from_parts, from_amount, laid_push, rising_after, tally_push}
 
 -- members and pairs come only after the rows, and pairs only after the members
 pub record Placed (last : ℕ) (c : Contents) : Type 0 where
@@ -82,55 +84,19 @@ tally-kept rows r h l a =
     omega (arith, e, q))
     (cases_eq r.address a)
 
-orderly_row : (c : Contents) (r : Row) → Orderly c → row_ranged r ≡ true → after row_key c.rows r ≡ true → length c.rows < 64 → tally r.address c.rows < 21 → Orderly (with_row c r)
-orderly_row c r o g u l t = record {
-  eleven = o.eleven;
-  low = o.low;
-  block = o.block;
-  rows = every_push row_ranged c.rows r o.rows g;
-  rows_rise = rising_after row_key c.rows r o.rows_rise u;
-  rows_few = one_more c.rows r 64 l;
-  rows_at = tally-kept c.rows r o.rows_at t;
-  members = o.members;
-  members_rise = o.members_rise;
-  members_few = o.members_few;
-  pairs = o.pairs;
-  pairs_rise = o.pairs_rise;
-  pairs_few = o.pairs_few;
+sound_push : (rows : List Row) (r : Row) → Sound rows → row_ranged r ≡ true → after row_key rows r ≡ true → length rows < 64 → tally r.address rows < 21 → Sound (rows ++ r ∷ [])
+sound_push rows r s g u l t = record {
+  few = one_more rows r 64 l;
+  each = tally-kept rows r s.each t;
+  ranges = and_push all_ranged row_ranged refl (λ _ _. refl) rows r ∙ and_from _ _ s.ranges g;
+  order = rising_after row_key rows r s.order u;
 }
 
-orderly_member : (c : Contents) (m : Member) → Orderly c → member_ranged m ≡ true → after member_key c.members m ≡ true → length c.members < 16 → Orderly (with_member c m)
-orderly_member c m o g u l = record {
-  eleven = o.eleven;
-  low = o.low;
-  block = o.block;
-  rows = o.rows;
-  rows_rise = o.rows_rise;
-  rows_few = o.rows_few;
-  rows_at = o.rows_at;
-  members = every_push member_ranged c.members m o.members g;
-  members_rise = rising_after member_key c.members m o.members_rise u;
-  members_few = one_more c.members m 16 l;
-  pairs = o.pairs;
-  pairs_rise = o.pairs_rise;
-  pairs_few = o.pairs_few;
-}
-
-orderly_pair : (c : Contents) (p : Pair) → Orderly c → pair_ranged p ≡ true → after pair_key c.pairs p ≡ true → length c.pairs < 16 → Orderly (with_pair c p)
-orderly_pair c p o g u l = record {
-  eleven = o.eleven;
-  low = o.low;
-  block = o.block;
-  rows = o.rows;
-  rows_rise = o.rows_rise;
-  rows_few = o.rows_few;
-  rows_at = o.rows_at;
-  members = o.members;
-  members_rise = o.members_rise;
-  members_few = o.members_few;
-  pairs = every_push pair_ranged c.pairs p o.pairs g;
-  pairs_rise = rising_after pair_key c.pairs p o.pairs_rise u;
-  pairs_few = one_more c.pairs p 16 l;
+fit_push : {X : Type 0} (in_range : X → Bool) (key : X → Key) (xs : List X) (x : X) → Fit in_range key xs → in_range x ≡ true → after key xs x ≡ true → length xs < 16 → Fit in_range key (xs ++ x ∷ [])
+fit_push in_range key xs x f g u l = record {
+  ranges = and_push (every in_range) in_range refl (λ _ _. refl) xs x ∙ and_from _ _ f.ranges g;
+  order = rising_after key xs x f.order u;
+  few = one_more xs x 16 l;
 }
 
 -- what one record does to the contents so far
@@ -161,7 +127,8 @@ module _ (n last : ℕ) (c : Contents) (w v : ℕ) (ft : fits n w ≡ true) (rm 
       ap (λ (x : List ℕ). head_words c.identity c.block ++ (x ++ (laid member_words c.members ++ laid pair_words c.pairs))) (laid_push row_words c.rows (row_of w v) ∙ ap (λ (x : List ℕ). laid row_words c.rows ++ x) b)
       ∙ append-row (head_words c.identity c.block) (laid row_words c.rows) (laid member_words c.members) (laid pair_words c.pairs) (w ∷ v ∷ []) (ap (laid member_words) em) (ap (laid pair_words) ep) in
       let kept : Placed (kind w) (with_row c (row_of w v)) = record { no_members = λ _. em; no_pairs = λ _. ep } in
-      let ord = orderly_row c (row_of w v) o (and_from _ _ f (id_good w v)) u (ltb-true _ _ r.0) (ltb-true _ _ r.1) in
+      let sound = sound_push c.rows (row_of w v) o.rows (and_from _ _ f (id_good w v)) u (ltb-true _ _ r.0) (ltb-true _ _ r.1) in
+      let ord : Orderly (with_row c (row_of w v)) = record { identity = o.identity; block = o.block; rows = sound; members = o.members; pairs = o.pairs } in
       subst (λ (x : Contents). Grown c w v (kind w) x) (sym d) (grown, ord, kept)
 
   grown-member : kind w ≡ 6 → Grown c w v (kind w) (entered c w v)
@@ -178,7 +145,8 @@ module _ (n last : ℕ) (c : Contents) (w v : ℕ) (ft : fits n w ≡ true) (rm 
       ap (λ (x : List ℕ). head_words c.identity c.block ++ (laid row_words c.rows ++ (x ++ laid pair_words c.pairs))) (laid_push member_words c.members (member_of w v) ∙ ap (λ (x : List ℕ). laid member_words c.members ++ x) b)
       ∙ append_member (head_words c.identity c.block) (laid row_words c.rows) (laid member_words c.members) (laid pair_words c.pairs) (w ∷ v ∷ []) (ap (laid pair_words) ep) in
       let kept : Placed (kind w) (with_member c (member_of w v)) = record { no_members = λ h. absurd (omega arith); no_pairs = λ _. ep } in
-      let ord = orderly_member c (member_of w v) o (and_from _ _ f (id_good w v)) u (ltb-true _ _ r) in
+      let fit = fit_push member_ranged member_key c.members (member_of w v) o.members (and_from _ _ f (id_good w v)) u (ltb-true _ _ r) in
+      let ord : Orderly (with_member c (member_of w v)) = record { identity = o.identity; block = o.block; rows = o.rows; members = fit; pairs = o.pairs } in
       subst (λ (x : Contents). Grown c w v (kind w) x) (sym d) (grown, ord, kept)
 
   grown-pair : kind w ≡ 7 → Grown c w v (kind w) (entered c w v)
@@ -194,7 +162,8 @@ module _ (n last : ℕ) (c : Contents) (w v : ℕ) (ft : fits n w ≡ true) (rm 
       ap (λ (x : List ℕ). head_words c.identity c.block ++ (laid row_words c.rows ++ (laid member_words c.members ++ x))) (laid_push pair_words c.pairs (pair_of w v) ∙ ap (λ (x : List ℕ). laid pair_words c.pairs ++ x) b)
       ∙ append_pair (head_words c.identity c.block) (laid row_words c.rows) (laid member_words c.members) (laid pair_words c.pairs) (w ∷ v ∷ []) in
       let kept : Placed (kind w) (with_pair c (pair_of w v)) = record { no_members = λ h. absurd (omega arith); no_pairs = λ h. absurd (omega arith) } in
-      let ord = orderly_pair c (pair_of w v) o (and_from _ _ f (id_good w v)) u (ltb-true _ _ r) in
+      let fit = fit_push pair_ranged pair_key c.pairs (pair_of w v) o.pairs (and_from _ _ f (id_good w v)) u (ltb-true _ _ r) in
+      let ord : Orderly (with_pair c (pair_of w v)) = record { identity = o.identity; block = o.block; rows = o.rows; members = o.members; pairs = fit } in
       subst (λ (x : Contents). Grown c w v (kind w) x) (sym d) (grown, ord, kept)
 
 kinds : (last k : ℕ) → follows last k ≡ true → (k ≡ 8 → ⊥) → (last ≤ k) × ((k ≡ 4) ⊎ ((k ≡ 6) ⊎ (k ≡ 7)))

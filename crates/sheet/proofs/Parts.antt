@@ -3,7 +3,6 @@ use Rattle.std.proofs.Common.{◌≡◌, ℕ, ◌+◌, ◌-◌, ◌*◌, ◌/◌
 use native.Mathlib.Nat.{div-div-eq-div-mul}
 use Rattle.std.proofs.lemmas.Bool.{and_parts, and_from, eq-eqb, cases_lt}
 use Rattle.std.proofs.lemmas.List.{get_or_default}
-use Rattle.std.proofs.lemmas.List.Recursion.{and_push}
 use Rattle.rising.specs.Order.{Key, Before}
 use Rattle.rising.specs.Lists.{leads, Rising}
 use Rattle.rising.proofs.Lists.{rising_at, rising_push}
@@ -48,9 +47,6 @@ module _ {X : Type 0} where
   pub laid_push : (f : X → List ℕ) (xs : List X) (x : X) → laid f (xs ++ x ∷ []) ≡ laid f xs ++ f x
   laid_push f [] x = simp append-nil
   laid_push f (y ∷ ys) x = ap (λ (z : List ℕ). f y ++ z) (laid_push f ys x) ∙ sym (append_assoc (f y) (laid f ys) (f x))
-
-  pub every_push : (p : X → Bool) (xs : List X) (x : X) → every p xs ≡ true → p x ≡ true → every p (xs ++ x ∷ []) ≡ true
-  every_push p xs x h q = and_push (every p) p refl (λ _ _. refl) xs x ∙ and_from _ _ h q
 
   pub rising_after : (key : X → Key) (xs : List X) (x : X) → Rising key xs → after key xs x ≡ true → Rising key (xs ++ x ∷ [])
   rising_after key xs x up h =

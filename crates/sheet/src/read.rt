@@ -60,15 +60,9 @@ fn header(u: u32, v: u32, w: u32) -> Result<Draft, SheetRefusal>
 fn read_words(bytes: &[u8]) -> Result<Draft, SheetRefusal>
     ensures { told result ≡ reads_words (words bytes.now) }
 {
-    let Some((u, bytes)) = split_word(bytes) else {
-        return Err(SheetRefusal::new(Refusal::SheetOrder, 0));
-    };
-    let Some((v, bytes)) = split_word(bytes) else {
-        return Err(SheetRefusal::new(Refusal::SheetOrder, 1));
-    };
-    let Some((w, bytes)) = split_word(bytes) else {
-        return Err(SheetRefusal::new(Refusal::SheetOrder, 2));
-    };
+    let (u, bytes) = split_word(bytes).ok_or(SheetRefusal::new(Refusal::SheetOrder, 0))?;
+    let (v, bytes) = split_word(bytes).ok_or(SheetRefusal::new(Refusal::SheetOrder, 1))?;
+    let (w, bytes) = split_word(bytes).ok_or(SheetRefusal::new(Refusal::SheetOrder, 2))?;
     body(bytes, header(u, v, w)?)
 }
 

@@ -1,10 +1,5 @@
 //! Makes the lists of a sheet from those of a draft without fault, which no making refuses.
-ghost use Rattle.std.specs.Prelude.{◌≡◌, ◌≤◌, true, length};
-ghost use Rattle.rising.specs.Lists.{Rising};
-ghost use Rattle.host.specs.Rows.{Sound};
-ghost use Rattle.host.specs.Tables.{listed};
-ghost use Rattle.layers.specs.Lists.{every, member_key, member_ranged, pair_key, pair_ranged};
-ghost use Rattle.layers.specs.Models.{members_of, pairs_of};
+ghost use Rattle.std.specs.Prelude.{◌≡◌};
 ghost use Rattle.sheet.specs.Drafts.{contents};
 ghost use Rattle.sheet.specs.Told.{holds};
 ghost use Rattle.sheet.specs.Valid.{Valid};
