@@ -1,11 +1,10 @@
 -- Every layout of valid contents is accepted.
-use Rattle.std.proofs.Common.{◌≡◌, ℕ, ◌+◌, ◌*◌, ◌<◌, ◌≤◌, Bool, true, false, cond, eqb, leb, List, [], ◌∷◌, ◌++◌, length, get_or, None, Option, sym, refl, ap, ◌∙◌, append_assoc, append-nil, arith, length-append}
+use Rattle.std.proofs.Common.{◌≡◌, ℕ, ◌+◌, ◌*◌, ◌<◌, ◌≤◌, Bool, true, false, cond, eqb, leb, List, [], ◌∷◌, ◌++◌, length, get_or, None, sym, refl, ap, ◌∙◌, append_assoc, append-nil, arith, length-append}
 use Rattle.std.proofs.lemmas.Bool.{and_parts, and_from, lt-ltb, le-leb, eqb-true, eq-eqb}
 use Rattle.std.proofs.lemmas.Bool.Decides.{nat_tests}
 use Rattle.rising.specs.Lists.{Rising}
 use Rattle.message.specs.declared.row.Row.{Row}
 use Rattle.layers.specs.declared.member.Member.{Member}
-use Rattle.message.specs.declared.refusal.Refusal.{Refusal}
 use Rattle.layers.specs.declared.pair.Pair.{Pair}
 use Rattle.sheet.specs.Words.{kind, first, third, fourth, amount, word}
 use Rattle.message.specs.Bytes.{is_address}
@@ -17,7 +16,7 @@ use Rattle.sheet.specs.Layout.{laid, row_words, member_words, pair_words}
 use Rattle.message.specs.Bytes.{is_id}
 use Rattle.layers.specs.Lists.{every, member_ranged, pair_ranged}
 use Rattle.sheet.proofs.Orderly.{row_ranged}
-use Rattle.sheet.specs.Reading.{Outcome, accepted, fault, follows, fits, room, opening, id_of, row_of, member_of, pair_of, fits_end, rises, ending, with_row, with_member, with_pair, entered, judged, body}
+use Rattle.sheet.specs.Reading.{Outcome, accepted, fault, follows, fits, room, opening, id_of, row_of, member_of, pair_of, fits_end, rises, ending, with_row, with_member, with_pair, entered, body}
 use Rattle.sheet.proofs.Turns.{at_last, at_two}
 use Rattle.sheet.proofs.Only.{choose}
 use Rattle.sheet.proofs.Splits.{five_of, low-at}
@@ -28,8 +27,7 @@ no_fault x y z p q r = rw (p, q, r)
 
 step : (n last : ℕ) (c : Contents) (w v : ℕ) (ws : List ℕ) → opening n last c w ≡ None → (kind w ≡ 8 → ⊥) → ending c w v ≡ None → body n last c (w ∷ v ∷ ws) ≡ body (n + 2) (kind w) (entered c w v) ws
 step n last c w v ws h k q =
-    at_two n last c w v ws h ∙ choose (kind w) 8 _ _ k
-    ∙ ap (λ (o : Option Refusal). judged (n + 1) o (body (n + 2) (kind w) (entered c w v) ws)) q
+    at_two n last c w v ws h ∙ choose (kind w) 8 _ _ k ∙ rw q
 
 address_low : (a : ℕ) → is_address a ≡ true → a < 128
 address_low a h = grind (arith, nat_tests)

@@ -1,16 +1,14 @@
 -- No two rows collide exactly if at most one row of each set is on at each address.
-use Rattle.std.proofs.Common.{◌≡◌, ℕ, zero, suc, ◌<◌, ◌≤◌, Bool, true, false, ◌&&◌, eqb, ltb, List, [], ◌∷◌, length, get_or, sym, refl, ap, ◌∙◌, subst, ⊎_elim, arith}
+use Rattle.std.proofs.Common.{◌≡◌, ℕ, zero, suc, ◌<◌, ◌≤◌, Bool, true, false, ◌&&◌, eqb, ltb, List, [], ◌∷◌, length, get_or, sym, refl, ◌∙◌, subst, ⊎_elim, arith}
 use Rattle.std.proofs.lemmas.Bool.{and_parts, and_from, both_ways, cases_Bool, cond-true, cond-false, eqb-true, eq-eqb, lt-ltb, ltb-true}
-use Rattle.message.specs.Rows.{all_ranged}
 use Rattle.message.specs.declared.row.Row.{Row}
 use Rattle.host.specs.Tables.{blank}
-use Rattle.layers.specs.Lists.{every}
 use Rattle.layers.specs.Sets.{set_of, together, count_on, AtMostOne}
 use Rattle.layers.specs.declared.member.Member.{Member}
 use Rattle.sheet.specs.Contents.{Contents}
 use Rattle.sheet.specs.Collisions.{collide}
 use Rattle.sheet.specs.Valid.{Valid}
-use Rattle.sheet.proofs.Orderly.{row_ranged, Apart, Orderly}
+use Rattle.sheet.proofs.Orderly.{Apart, Orderly}
 
 module _ (ms : List Member) where
   -- a row that counts for a set at an address

@@ -8,7 +8,6 @@ use Rattle.sheet.specs.Contents.{Contents}
 use Rattle.sheet.specs.Collisions.{clash}
 use Rattle.sheet.specs.Layout.{laid, row_words, member_words, pair_words, so_far, layout, flat}
 use Rattle.sheet.specs.Law.{Octets, Exactly}
-use Rattle.message.specs.Bytes.{sevens}
 use Rattle.sheet.proofs.Orderly.{Orderly}
 use Rattle.sheet.specs.Valid.{Valid}
 use Rattle.sheet.specs.Reading.{Outcome, accepted, refused, fault, judged, judged_sets, body, headed, header, continued, settled, reads_words, sized, reads}
@@ -120,14 +119,11 @@ so_far-count c =
 body-all : (c : Contents) → Orderly c → body 3 4 (made c.identity c.block [] [] []) (laid row_words c.rows ++ (laid member_words c.members ++ (laid pair_words c.pairs ++ ((8 * 268435456 + length (so_far c)) ∷ [])))) ≡ accepted c
 body-all c o =
     let n = so_far-count c in
-    let few = o.rows.few in
-    let few2 = o.members.few in
-    let few3 = o.pairs.few in
     let cl : List ℕ = (8 * 268435456 + length (so_far c)) ∷ [] in
     rows_read c.identity c.block (laid member_words c.members ++ (laid pair_words c.pairs ++ cl)) (accepted c) c.rows [] 3 o.rows.ranges o.rows.order o.rows.few o.rows.each
     (members_read c.identity c.block (laid pair_words c.pairs ++ cl) (accepted c) c.rows c.members [] (3 + 2 * length c.rows) 4 (omega arith) o.members.ranges o.members.order o.members.few
     (λ k le. pairs_read c.identity c.block cl (accepted c) c.rows c.members c.pairs [] (3 + 2 * length c.rows + 2 * length c.members) k (omega arith) o.pairs.ranges o.pairs.order o.pairs.few
-    (λ j lf. subst (λ (x : ℕ). body x j c cl ≡ accepted c) n (closed (length (so_far c)) j c lf (omega (arith, n, few, few2, few3))))))
+    (λ j lf. subst (λ (x : ℕ). body x j c cl ≡ accepted c) n (closed (length (so_far c)) j c lf (omega (arith, n, o.rows.few, o.members.few, o.pairs.few))))))
 
 words-all : (c : Contents) → Orderly c → reads_words (layout c) ≡ accepted c
 words-all c o =
@@ -147,11 +143,8 @@ all_these c valid =
     let n = so_far-count c in
     let m = length-append (so_far c) ((8 * 268435456 + length (so_far c)) ∷ []) in
     let f = flat-count (layout c) in
-    let few = o.rows.few in
-    let few2 = o.members.few in
-    let few3 = o.pairs.few in
     let z : length (layout c) ≡ length (so_far c) + 1 = m in
-    let s : sized (length (flat (layout c))) ≡ true = sized_true (length (flat (layout c))) (omega (arith, n, z, f)) (omega (arith, n, z, f, few, few2, few3)) (omega (arith, f)) in
+    let s : sized (length (flat (layout c))) ≡ true = sized_true (length (flat (layout c))) (omega (arith, n, z, f)) (omega (arith, n, z, f, o.rows.few, o.members.few, o.pairs.few)) (omega (arith, f)) in
     cond-true _ _ _ s
     ∙ ap (λ (x : List ℕ). settled (reads_words x)) (words-flat (layout c))
     ∙ ap settled (words-all c o)

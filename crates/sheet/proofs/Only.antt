@@ -4,10 +4,8 @@ use Rattle.std.proofs.lemmas.Bool.{and_parts, and_from, lt-ltb, ltb-true, leb-tr
 use Rattle.std.proofs.lemmas.Bool.Decides.{nat_tests}
 use Rattle.std.proofs.lemmas.List.Recursion.{and_push}
 use Rattle.message.specs.declared.row.Row.{Row}
-use Rattle.layers.specs.declared.member.Member.{Member}
 use Rattle.message.specs.declared.refusal.Refusal.{Refusal}
 use Rattle.message.specs.declared.refusal.Refusal.TheVariants.{SheetOrder}
-use Rattle.layers.specs.declared.pair.Pair.{Pair}
 use Rattle.sheet.specs.Words.{kind, first, second, third, fourth, amount, word}
 use Rattle.message.specs.Bytes.{is_address}
 use Rattle.rising.specs.Order.{Key}
@@ -15,7 +13,7 @@ use Rattle.message.specs.Rows.{row_key, all_ranged}
 use Rattle.host.specs.Rows.{tally, Sound}
 use Rattle.layers.specs.Lists.{member_key, pair_key}
 use Rattle.sheet.specs.Contents.{Contents, is_set, after}
-use Rattle.sheet.specs.Layout.{laid, row_words, member_words, pair_words, head_words, so_far, layout}
+use Rattle.sheet.specs.Layout.{two_words, laid, row_words, member_words, pair_words, head_words, so_far, layout}
 use Rattle.message.specs.Bytes.{is_id}
 use Rattle.layers.specs.Lists.{every, member_ranged, pair_ranged}
 use Rattle.sheet.proofs.Orderly.{row_ranged, Fit, Orderly}
@@ -47,25 +45,11 @@ id_good : (w v : ℕ) → is_id (id_of w v) ≡ true
 id_good w v =
     and_from _ _ (low (w / 16384)) (and_from _ _ (low (w / 128)) (and_from _ _ (low w) (and_from _ _ (low (v / 2097152)) (and_from _ _ (low (v / 16384)) refl))))
 
-end_word : (v : ℕ) (m : ℕ) → kind v ≡ 5 → third v ≡ 0 → m ≡ fourth v → word 5 (first v) (second v) 0 m ≡ v
-end_word v m k t e =
-    ap (λ (x : ℕ). word 5 (first v) (second v) x m) (sym t) ∙ ap (λ (x : ℕ). word 5 (first v) (second v) (third v) x) e ∙ from_parts v 5 k
-
--- the words of the record that two words make are these two
-row_back : (w v : ℕ) → kind w ≡ 4 → kind v ≡ 5 → third v ≡ 0 → fourth v ≤ 1 → row_words (row_of w v) ≡ w ∷ v ∷ []
-row_back w v k l t f =
-    ap (λ (x : ℕ). x ∷ word 5 (first v) (second v) 0 (cond (eqb (fourth v) 1) 1 0) ∷ []) (from_parts w 4 k)
-    ∙ ap (λ (x : ℕ). w ∷ x ∷ []) (end_word v (cond (eqb (fourth v) 1) 1 0) l t (mark_of (fourth v) f))
-
-member_back : (w v : ℕ) → kind w ≡ 6 → kind v ≡ 5 → third v ≡ 0 → fourth v ≤ 0 → member_words (member_of w v) ≡ w ∷ v ∷ []
-member_back w v k l t f =
-    ap (λ (x : ℕ). x ∷ word 5 (first v) (second v) 0 0 ∷ []) (from_parts w 6 k)
-    ∙ ap (λ (x : ℕ). w ∷ x ∷ []) (end_word v 0 l t (omega arith))
-
-pair_back : (w v : ℕ) → kind w ≡ 7 → kind v ≡ 5 → third v ≡ 0 → fourth v ≤ 0 → pair_words (pair_of w v) ≡ w ∷ v ∷ []
-pair_back w v k l t f =
-    ap (λ (x : ℕ). x ∷ word 5 (first v) (second v) 0 0 ∷ []) (from_parts w 7 k)
-    ∙ ap (λ (x : ℕ). w ∷ x ∷ []) (end_word v 0 l t (omega arith))
+-- the words of the entry that two words make are these two
+words_back : (k w v m : ℕ) → kind w ≡ k → kind v ≡ 5 → third v ≡ 0 → m ≡ fourth v → two_words k (first w) (id_of w v) m ≡ w ∷ v ∷ []
+words_back k w v m e l t f =
+    let z : word 5 (first v) (second v) 0 m ≡ word 5 (first v) (second v) (third v) (fourth v) = rw (f, t) in
+    ap (λ (x : ℕ). x ∷ word 5 (first v) (second v) 0 m ∷ []) (from_parts w k e) ∙ ap (λ (x : ℕ). w ∷ x ∷ []) (z ∙ from_parts v 5 l)
 
 one_more : {X : Type 0} (xs : List X) (x : X) (n : ℕ) → length xs < n → length (xs ++ x ∷ []) ≤ n
 one_more xs x n h = simp length-append (omega arith)
@@ -73,16 +57,8 @@ one_more xs x n h = simp length-append (omega arith)
 tally-kept : (rows : List Row) (r : Row) → ((a : ℕ) → tally a rows ≤ 21) → tally r.address rows < 21 → (a : ℕ) → tally a (rows ++ r ∷ []) ≤ 21
 tally-kept rows r h l a =
     let e = tally_push a rows r in
-    ⊎_elim
-    (λ (s : (r.address ≡ a)).
-    let t : tally a rows < 21 = subst (λ (x : ℕ). tally x rows < 21) s l in
-    let q = cond-true {A = ℕ} (eqb a r.address) 1 0 (eq-eqb _ _ (sym s)) in
-    omega (arith, e, q))
-    (λ (s : (r.address ≡ a → ⊥)).
-    let q = cond-false {A = ℕ} (eqb a r.address) 1 0 (ne_eqb _ _ (λ t. s (sym t))) in
     let t = h a in
-    omega (arith, e, q))
-    (cases_eq r.address a)
+    grind (arith, nat_tests)
 
 sound_push : (rows : List Row) (r : Row) → Sound rows → row_ranged r ≡ true → after row_key rows r ≡ true → length rows < 64 → tally r.address rows < 21 → Sound (rows ++ r ∷ [])
 sound_push rows r s g u l t = record {
@@ -122,7 +98,7 @@ module _ (n last : ℕ) (c : Contents) (w v : ℕ) (ft : fits n w ≡ true) (rm 
       let d : entered c w v ≡ with_row c (row_of w v) = rw k in
       let em = p.no_members (omega arith) in
       let ep = p.no_pairs (omega arith) in
-      let b = row_back w v k k5 (eqb-true _ _ e.0) m in
+      let b = words_back 4 w v _ k k5 (eqb-true _ _ e.0) (mark_of (fourth v) m) in
       let grown : so_far (with_row c (row_of w v)) ≡ so_far c ++ (w ∷ v ∷ []) =
       ap (λ (x : List ℕ). head_words c.identity c.block ++ (x ++ (laid member_words c.members ++ laid pair_words c.pairs))) (laid_push row_words c.rows (row_of w v) ∙ ap (λ (x : List ℕ). laid row_words c.rows ++ x) b)
       ∙ append-row (head_words c.identity c.block) (laid row_words c.rows) (laid member_words c.members) (laid pair_words c.pairs) (w ∷ v ∷ []) (ap (laid member_words) em) (ap (laid pair_words) ep) in
@@ -140,7 +116,7 @@ module _ (n last : ℕ) (c : Contents) (w v : ℕ) (ft : fits n w ≡ true) (rm 
       let m : fourth v ≤ 0 = leb-true _ 0 (rw k at e.1) in
       let d : entered c w v ≡ with_member c (member_of w v) = rw k in
       let ep = p.no_pairs (omega arith) in
-      let b = member_back w v k k5 (eqb-true _ _ e.0) m in
+      let b = words_back 6 w v 0 k k5 (eqb-true _ _ e.0) (omega arith) in
       let grown : so_far (with_member c (member_of w v)) ≡ so_far c ++ (w ∷ v ∷ []) =
       ap (λ (x : List ℕ). head_words c.identity c.block ++ (laid row_words c.rows ++ (x ++ laid pair_words c.pairs))) (laid_push member_words c.members (member_of w v) ∙ ap (λ (x : List ℕ). laid member_words c.members ++ x) b)
       ∙ append_member (head_words c.identity c.block) (laid row_words c.rows) (laid member_words c.members) (laid pair_words c.pairs) (w ∷ v ∷ []) (ap (laid pair_words) ep) in
@@ -157,7 +133,7 @@ module _ (n last : ℕ) (c : Contents) (w v : ℕ) (ft : fits n w ≡ true) (rm 
       let e = and_parts _ _ fe in
       let m : fourth v ≤ 0 = leb-true _ 0 (rw k at e.1) in
       let d : entered c w v ≡ with_pair c (pair_of w v) = rw k in
-      let b = pair_back w v k k5 (eqb-true _ _ e.0) m in
+      let b = words_back 7 w v 0 k k5 (eqb-true _ _ e.0) (omega arith) in
       let grown : so_far (with_pair c (pair_of w v)) ≡ so_far c ++ (w ∷ v ∷ []) =
       ap (λ (x : List ℕ). head_words c.identity c.block ++ (laid row_words c.rows ++ (laid member_words c.members ++ x))) (laid_push pair_words c.pairs (pair_of w v) ∙ ap (λ (x : List ℕ). laid pair_words c.pairs ++ x) b)
       ∙ append_pair (head_words c.identity c.block) (laid row_words c.rows) (laid member_words c.members) (laid pair_words c.pairs) (w ∷ v ∷ []) in

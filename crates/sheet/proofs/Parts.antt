@@ -1,7 +1,7 @@
 -- Words and their parts; lists of entries and their words.
-use Rattle.std.proofs.Common.{◌≡◌, ℕ, ◌+◌, ◌-◌, ◌*◌, ◌/◌, ◌<◌, ◌≤◌, Bool, true, cond, eqb, List, [], ◌∷◌, ◌++◌, length, get_or, sym, refl, ap, ◌∙◌, ⊎_elim, append_assoc, append-nil, arith}
+use Rattle.std.proofs.Common.{◌≡◌, ℕ, ◌+◌, ◌-◌, ◌*◌, ◌/◌, ◌<◌, ◌≤◌, true, cond, eqb, List, [], ◌∷◌, ◌++◌, length, get_or, sym, refl, ap, ◌∙◌, ⊎_elim, append_assoc, append-nil, arith}
 use native.Mathlib.Nat.{div-div-eq-div-mul}
-use Rattle.std.proofs.lemmas.Bool.{and_parts, and_from, eq-eqb, cases_lt}
+use Rattle.std.proofs.lemmas.Bool.{and_parts, eq-eqb, cases_lt}
 use Rattle.std.proofs.lemmas.List.{get_or_default}
 use Rattle.rising.specs.Order.{Key, Before}
 use Rattle.rising.specs.Lists.{leads, Rising}
@@ -12,7 +12,6 @@ use Rattle.sheet.specs.Words.{kind, first, second, third, fourth, amount, word}
 use Rattle.host.specs.Rows.{tally}
 use Rattle.sheet.specs.Contents.{after}
 use Rattle.sheet.specs.Layout.{laid}
-use Rattle.layers.specs.Lists.{every}
 use Rattle.sheet.proofs.Plain.{after_last}
 
 -- a word is made of its parts

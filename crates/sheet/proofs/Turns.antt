@@ -1,5 +1,5 @@
 -- One turn of reading, at each of its ends.
-use Rattle.std.proofs.Common.{◌≡◌, ℕ, ◌+◌, Bool, true, false, cond, eqb, List, [], ◌∷◌, Some, None, Option, refl, ap, ◌∙◌}
+use Rattle.std.proofs.Common.{◌≡◌, ℕ, ◌+◌, Bool, true, false, cond, eqb, List, [], ◌∷◌, Some, None, refl, ap, ◌∙◌}
 use Rattle.std.proofs.lemmas.Bool.{eq-eqb, ne_eqb, cond-true, cond-false}
 use Rattle.message.specs.declared.refusal.Refusal.{Refusal}
 use Rattle.message.specs.declared.refusal.Refusal.TheVariants.{SheetOrder}
@@ -14,16 +14,16 @@ body-none n last c = refl
 
 pub refused_here : (n last : ℕ) (c : Contents) (w : ℕ) (ws : List ℕ) (e : Refusal) → opening n last c w ≡ Some e → body n last c (w ∷ ws) ≡ refused e n
 unfolding body
-refused_here n last c w [] e h = ap (λ (o : Option Refusal). judged n o (cond (eqb (kind w) 8) (accepted c) (refused SheetOrder (n + 1)))) h
-refused_here n last c w (v ∷ ws) e h = ap (λ (o : Option Refusal). judged n o (cond (eqb (kind w) 8) (refused SheetOrder (n + 1)) (judged (n + 1) (ending c w v) (body (n + 2) (kind w) (entered c w v) ws)))) h
+refused_here n last c w [] e h = rw h
+refused_here n last c w (v ∷ ws) e h = rw h
 
 pub at_last : (n last : ℕ) (c : Contents) (w : ℕ) → opening n last c w ≡ None → body n last c (w ∷ []) ≡ cond (eqb (kind w) 8) (accepted c) (refused SheetOrder (n + 1))
 unfolding body
-at_last n last c w h = ap (λ (o : Option Refusal). judged n o (cond (eqb (kind w) 8) (accepted c) (refused SheetOrder (n + 1)))) h
+at_last n last c w h = rw h
 
 pub at_two : (n last : ℕ) (c : Contents) (w v : ℕ) (ws : List ℕ) → opening n last c w ≡ None → body n last c (w ∷ v ∷ ws) ≡ cond (eqb (kind w) 8) (refused SheetOrder (n + 1)) (judged (n + 1) (ending c w v) (body (n + 2) (kind w) (entered c w v) ws))
 unfolding body
-at_two n last c w v ws h = ap (λ (o : Option Refusal). judged n o (cond (eqb (kind w) 8) (refused SheetOrder (n + 1)) (judged (n + 1) (ending c w v) (body (n + 2) (kind w) (entered c w v) ws)))) h
+at_two n last c w v ws h = rw h
 
 -- the words ws are w and the words vs
 module _ (ws : List ℕ) (n last : ℕ) (c : Contents) (w : ℕ) (vs : List ℕ) (ew : ws ≡ w ∷ vs) where
@@ -50,10 +50,10 @@ module _ (ws : List ℕ) (n last : ℕ) (c : Contents) (w : ℕ) (vs : List ℕ)
     turn h k = two h ∙ cond-false _ _ _ (ne_eqb _ 8 k)
 
     pub body_bad : (e : Refusal) → opening n last c w ≡ None → (kind w ≡ 8 → ⊥) → ending c w v ≡ Some e → body n last c ws ≡ refused e (n + 1)
-    body_bad e h k q = turn h k ∙ ap (λ (o : Option Refusal). judged (n + 1) o (body (n + 2) (kind w) (entered c w v) us)) q
+    body_bad e h k q = turn h k ∙ rw q
 
     pub body_more : opening n last c w ≡ None → (kind w ≡ 8 → ⊥) → ending c w v ≡ None → body n last c ws ≡ body (n + 2) (kind w) (entered c w v) us
-    body_more h k q = turn h k ∙ ap (λ (o : Option Refusal). judged (n + 1) o (body (n + 2) (kind w) (entered c w v) us)) q
+    body_more h k q = turn h k ∙ rw q
 
 pub fault-none : (order range rise : Bool) → fault order range rise ≡ None → (order ≡ true) × (range ≡ true) × (rise ≡ true)
 fault-none true true true h = (refl, refl, refl)

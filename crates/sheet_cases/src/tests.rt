@@ -2,20 +2,30 @@
 use crate::writing::Writing;
 use host::Host;
 use message::Refusal;
-use sheet::SheetRefusal;
+use sheet::{Sheet, SheetRefusal};
 use std::alloc::AllocError;
 use std::process::Abort;
 use std::test::Fail;
 
 // Refused with that number, at that word.
-fn refused(rt: &impl Abort, writing: &Writing, number: u8, word: usize, case: &str) {
-    match writing.read() {
+fn is_refusal(
+    rt: &impl Abort,
+    answer: Result<Sheet, SheetRefusal>,
+    number: u8,
+    word: usize,
+    case: &str,
+) {
+    match answer {
         Ok(_) => assert!(rt; false, "accepted: {case}"),
         Err(e) => {
             assert_eq!(rt; e.refusal.number(), number, "{case}");
             assert_eq!(rt; e.word, word, "{case}");
         }
     }
+}
+
+fn refused(rt: &impl Abort, writing: &Writing, number: u8, word: usize, case: &str) {
+    is_refusal(rt, writing.read(), number, word, case);
 }
 
 fn accepted(rt: &impl Abort, writing: &Writing, case: &str) {
@@ -52,13 +62,7 @@ fn the_longest_sheet(rt: HostRuntime) -> Result<(), Fail> {
 }
 
 fn refused_length(rt: &impl Abort, writing: &Writing, length: usize, case: &str) {
-    match writing.read_bytes(length) {
-        Ok(_) => assert!(rt; false, "accepted: {case}"),
-        Err(e) => {
-            assert_eq!(rt; e.refusal.number(), 13, "{case}");
-            assert_eq!(rt; e.word, 0, "{case}");
-        }
-    }
+    is_refusal(rt, writing.read_bytes(length), 13, 0, case);
 }
 
 #[test]

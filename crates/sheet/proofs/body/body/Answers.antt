@@ -16,7 +16,7 @@ returns-in_err-opening c =
     let e = c.in_err-opening.ensures in
     let p = err_from_is_err_and c.from_residual.result c.from_residual.ensures.1 in
     rw (p.1, p.2) (told_as c.in_err-opening.field-0.0 _ l.n (refl, e.1)
-    ∙ sym (body_refused (words l.left.now) l.n (code l.last) (contents l.draft) c.in-Some.word _ c.in-Some.ensures.0 _ e.0)
+    ∙ sym (body_refused _ l.n (code l.last) (contents l.draft) c.in-Some.word _ c.in-Some.ensures.0 _ e.0)
     ∙ l.invariant.0)
 
 pub returns-in-None : goal.returns-in-None
@@ -25,7 +25,7 @@ returns-in-None c =
     let o = c.in_ok-opening.ensures in
     let q : kind c.in-Some.word ≡ code c.in_ok-opening.opening.kind = ap kind (sym o.1) ∙ c.in_ok-opening.opening.told in
     let k : code c.in_ok-opening.opening.kind ≡ 8 = search rules in
-    sym (body_closed (words l.left.now) l.n (code l.last) (contents l.draft) c.in-Some.word _ c.in-Some.ensures.0 c.in-None.ensures o.0 (q ∙ k))
+    sym (body_closed _ l.n (code l.last) (contents l.draft) c.in-Some.word _ c.in-Some.ensures.0 c.in-None.ensures o.0 (q ∙ k))
     ∙ l.invariant.0
 
 pub returns-in-Some-next : goal.returns-in-Some-next
@@ -35,7 +35,7 @@ returns-in-Some-next c =
     let q : kind c.in-Some.word ≡ code c.in_ok-opening.opening.kind = ap kind (sym o.1) ∙ c.in_ok-opening.opening.told in
     let k : code c.in_ok-opening.opening.kind ≡ 8 = search rules in
     told_as c.new.result SheetOrder (l.n + 1) c.new.ensures
-    ∙ sym (body_extra (words l.left.now) l.n (code l.last) (contents l.draft) c.in-Some.word _ c.in-Some.ensures.0 _ _ c.in-Some-next.ensures.0 o.0 (q ∙ k))
+    ∙ sym (body_extra _ l.n (code l.last) (contents l.draft) c.in-Some.word _ c.in-Some.ensures.0 _ _ c.in-Some-next.ensures.0 o.0 (q ∙ k))
     ∙ l.invariant.0
 
 pub returns-in_default-next : goal.returns-in_default-next
@@ -45,7 +45,7 @@ returns-in_default-next c =
     let q : kind c.in-Some.word ≡ code c.in_ok-opening.opening.kind = ap kind (sym o.1) ∙ c.in_ok-opening.opening.told in
     let k : code c.in_ok-opening.opening.kind ≡ 8 → ⊥ = λ h. search (rules, end_only) in
     told_as c.new-in_default-next.result SheetOrder (l.n + 1) c.new-in_default-next.ensures
-    ∙ sym (body_cut (words l.left.now) l.n (code l.last) (contents l.draft) c.in-Some.word _ c.in-Some.ensures.0 c.in_default-next.ensures o.0 (λ h. k (sym q ∙ h)))
+    ∙ sym (body_cut _ l.n (code l.last) (contents l.draft) c.in-Some.word _ c.in-Some.ensures.0 c.in_default-next.ensures o.0 (λ h. k (sym q ∙ h)))
     ∙ l.invariant.0
 
 pub returns-in_err-entry : goal.returns-in_err-entry
@@ -57,7 +57,7 @@ returns-in_err-entry c =
     let e = c.in_err-entry.ensures in
     let p = err_from_is_err_and c.from_residual-in_err-entry.result c.from_residual-in_err-entry.ensures.1 in
     rw (p.1, p.2) (told_as c.in_err-entry.field-0.0 _ (l.n + 1) (refl, e.1)
-    ∙ sym (body_bad (words l.left.now) l.n (code l.last) (contents l.draft) c.in-Some.word _ c.in-Some.ensures.0 c.in-Some-next-2.then _ c.in-Some-next-2.ensures.0 _ o.0 (λ h. k (sym q ∙ h)) (ap (λ (x : ℕ). ending (contents l.draft) x c.in-Some-next-2.then) (sym o.1) ∙ e.0))
+    ∙ sym (body_bad _ l.n (code l.last) (contents l.draft) c.in-Some.word _ c.in-Some.ensures.0 c.in-Some-next-2.then _ c.in-Some-next-2.ensures.0 _ o.0 (λ h. k (sym q ∙ h)) (ap (λ (x : ℕ). ending (contents l.draft) x c.in-Some-next-2.then) (sym o.1) ∙ e.0))
     ∙ l.invariant.0)
 
 pub enter-requires : goal.enter-requires
@@ -83,7 +83,7 @@ loop-word-preserved c =
     let r = c.in-Some-next-2.ensures.1 in (
       ap (λ (j : ℕ). body (l.n + 2) j (contents c.enter.new.self) us) (sym q)
           ∙ ap (λ (d : Contents). body (l.n + 2) (kind w) d us) (c.enter.ensures ∙ ap (with_entry (contents l.draft)) (x.1 ∙ ap (λ (y : ℕ). entry_of y v) o.1) ∙ entry_in (contents l.draft) w v)
-          ∙ sym (body_more (words l.left.now) l.n (code l.last) (contents l.draft) w _ c.in-Some.ensures.0 v us c.in-Some-next-2.ensures.0 o.0 (λ h. k (sym q ∙ h)) (ap (λ (y : ℕ). ending (contents l.draft) y v) (sym o.1) ∙ x.0))
+          ∙ sym (body_more _ l.n (code l.last) (contents l.draft) w _ c.in-Some.ensures.0 v us c.in-Some-next-2.ensures.0 o.0 (λ h. k (sym q ∙ h)) (ap (λ (y : ℕ). ending (contents l.draft) y v) (sym o.1) ∙ x.0))
           ∙ l.invariant.0,
       omega arith,
     )
