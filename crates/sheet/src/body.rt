@@ -17,6 +17,7 @@ pub(crate) fn body(bytes: &[u8], mut draft: Draft) -> Result<Draft, SheetRefusal
 {
     let mut left = bytes;
     let mut last = Kind::Row;
+    // The number of the next word, which a refusal tells.
     let mut n = 3;
     while let Some((word, after)) = split_word(left) {
         let opening = draft.opening(n, last, word)?;

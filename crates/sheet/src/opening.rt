@@ -8,7 +8,7 @@ use crate::kind::Kind;
 use crate::word::{amount, first};
 use message::Address;
 
-/// A word, and its kind.
+/// The first word of an entry or the closing word, and its kind.
 #[derive(Clone, Copy)]
 pub struct Opening {
     pub kind: Kind,
