@@ -1,15 +1,14 @@
 -- No two rows collide exactly if at most one row of each set is on at each address.
-use Rattle.std.proofs.Common.{◌≡◌, ℕ, zero, suc, ◌<◌, ◌≤◌, Bool, true, false, ◌&&◌, eqb, ltb, List, [], ◌∷◌, length, get_or, sym, refl, ap, ◌∙◌, subst, ⊎_elim, arith}
+use Rattle.std.proofs.Common.{◌≡◌, ℕ, zero, suc, ◌<◌, ◌≤◌, Bool, true, false, ◌&&◌, eqb, ltb, List, [], ◌∷◌, length, get_or, sym, refl, ◌∙◌, subst, ⊎_elim, arith}
 use Rattle.std.proofs.lemmas.Bool.{and_parts, and_from, both_ways, cases_Bool, cond-true, cond-false, eqb-true, eq-eqb, lt-ltb, ltb-true}
-use Rattle.message.specs.Rows.{all_ranged}
 use Rattle.message.specs.declared.row.Row.{Row}
-use Rattle.layers.specs.Lists.{every}
+use Rattle.host.specs.Tables.{blank}
 use Rattle.layers.specs.Sets.{set_of, together, count_on, AtMostOne}
 use Rattle.layers.specs.declared.member.Member.{Member}
 use Rattle.sheet.specs.Contents.{Contents}
 use Rattle.sheet.specs.Collisions.{collide}
 use Rattle.sheet.specs.Valid.{Valid}
-use Rattle.sheet.proofs.Orderly.{row_ranged, blank, Apart, Orderly}
+use Rattle.sheet.proofs.Orderly.{Apart, Orderly}
 
 module _ (ms : List Member) where
   -- a row that counts for a set at an address
@@ -88,40 +87,27 @@ module _ (ms : List Member) where
       (λ (t : (collide ms r s ≡ false)). t)
       (cases_Bool (collide ms r s))
 
-all-every : (l : List Row) → all_ranged l ≡ every row_ranged l
-all-every [] = refl
-all-every (r ∷ l) = ap (λ (b : Bool). row_ranged r && b) (all-every l)
-
 pub valid_from : (c : Contents) → Orderly c → Apart c.members c.rows → Valid c
 valid_from c o apart =
     record {
-      identity = and_from _ _ (eq-eqb _ 11 o.eleven) o.low;
+      identity = o.identity;
       block = o.block;
-      rows = record { few = o.rows_few; each = o.rows_at; ranges = all-every c.rows ∙ o.rows; order = o.rows_rise };
-      members = o.members;
-      members_rise = o.members_rise;
-      members_few = o.members_few;
-      pairs = o.pairs;
-      pairs_rise = o.pairs_rise;
-      pairs_few = o.pairs_few;
+      rows = o.rows;
+      members = o.members.ranges;
+      members_rise = o.members.order;
+      members_few = o.members.few;
+      pairs = o.pairs.ranges;
+      pairs_rise = o.pairs.order;
+      pairs_few = o.pairs.few;
       one_on = one_from c.members c.rows apart;
     }
 
 pub orderly_from : (c : Contents) → Valid c → Orderly c
 orderly_from c v =
-    let i = and_parts (eqb (length c.identity) 11) _ v.identity in
     record {
-      eleven = eqb-true _ 11 i.0;
-      low = i.1;
+      identity = v.identity;
       block = v.block;
-      rows = sym (all-every c.rows) ∙ v.rows.ranges;
-      rows_rise = v.rows.order;
-      rows_few = v.rows.few;
-      rows_at = v.rows.each;
-      members = v.members;
-      members_rise = v.members_rise;
-      members_few = v.members_few;
-      pairs = v.pairs;
-      pairs_rise = v.pairs_rise;
-      pairs_few = v.pairs_few;
+      rows = v.rows;
+      members = record { ranges = v.members; order = v.members_rise; few = v.members_few };
+      pairs = record { ranges = v.pairs; order = v.pairs_rise; few = v.pairs_few };
     }

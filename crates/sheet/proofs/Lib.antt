@@ -1,6 +1,7 @@
 pub mod Orderly
 pub mod Plain
 pub mod Turns
+pub mod Entries
 pub mod Parts
 pub mod Only
 pub mod Bytes

@@ -1,25 +1,25 @@
 -- What is accepted is the layout of valid contents.
-use Rattle.std.proofs.Common.{◌≡◌, ℕ, ◌+◌, ◌*◌, ◌/◌, ◌%◌, ◌<◌, ◌≤◌, true, cond, ◌||◌, eqb, ltb, ◌⊎◌, List, [], ◌∷◌, ◌++◌, length, Some, None, Option, sym, refl, ap, ◌∙◌, subst, inl, inr, ⊎_elim, append_assoc, append-nil, arith, length-append}
+use Rattle.std.proofs.Common.{◌≡◌, ℕ, ◌+◌, ◌*◌, ◌/◌, ◌%◌, ◌<◌, ◌≤◌, Bool, true, cond, ◌&&◌, ◌||◌, eqb, ltb, ◌⊎◌, List, [], ◌∷◌, ◌++◌, length, Some, None, Option, sym, refl, ap, ◌∙◌, subst, inl, inr, ⊎_elim, append_assoc, append-nil, arith, length-append}
 use Rattle.std.proofs.lemmas.Bool.{and_parts, and_from, lt-ltb, ltb-true, leb-true, eqb-true, eq-eqb, ne_eqb, cases_eq, cond-true, cond-false}
 use Rattle.std.proofs.lemmas.Bool.Decides.{nat_tests}
+use Rattle.std.proofs.lemmas.List.Recursion.{and_push}
 use Rattle.message.specs.declared.row.Row.{Row}
-use Rattle.layers.specs.declared.member.Member.{Member}
 use Rattle.message.specs.declared.refusal.Refusal.{Refusal}
 use Rattle.message.specs.declared.refusal.Refusal.TheVariants.{SheetOrder}
-use Rattle.layers.specs.declared.pair.Pair.{Pair}
 use Rattle.sheet.specs.Words.{kind, first, second, third, fourth, amount, word}
 use Rattle.message.specs.Bytes.{is_address}
-use Rattle.message.specs.Rows.{row_key}
-use Rattle.host.specs.Rows.{tally}
+use Rattle.rising.specs.Order.{Key}
+use Rattle.message.specs.Rows.{row_key, all_ranged}
+use Rattle.host.specs.Rows.{tally, Sound}
 use Rattle.layers.specs.Lists.{member_key, pair_key}
 use Rattle.sheet.specs.Contents.{Contents, is_set, after}
-use Rattle.sheet.specs.Layout.{laid, row_words, member_words, pair_words, head_words, so_far, layout}
+use Rattle.sheet.specs.Layout.{two_words, laid, row_words, member_words, pair_words, head_words, so_far, layout}
 use Rattle.message.specs.Bytes.{is_id}
-use Rattle.layers.specs.Lists.{member_ranged, pair_ranged}
-use Rattle.sheet.proofs.Orderly.{row_ranged, Orderly}
+use Rattle.layers.specs.Lists.{every, member_ranged, pair_ranged}
+use Rattle.sheet.proofs.Orderly.{row_ranged, Fit, Orderly}
 use Rattle.sheet.specs.Reading.{accepted, refused, follows, fits, room, opening, id_of, row_of, member_of, pair_of, fits_end, rises, ending, with_row, with_member, with_pair, entered, judged, body}
 use Rattle.sheet.proofs.Turns.{fault-none, refused_here, at_last, at_two}
-use Rattle.sheet.proofs.Parts.{from_parts, from_amount, laid_push, every_push, rising_after, tally_push}
+use Rattle.sheet.proofs.Parts.{from_parts, from_amount, laid_push, rising_after, tally_push}
 
 -- members and pairs come only after the rows, and pairs only after the members
 pub record Placed (last : ℕ) (c : Contents) : Type 0 where
@@ -45,25 +45,11 @@ id_good : (w v : ℕ) → is_id (id_of w v) ≡ true
 id_good w v =
     and_from _ _ (low (w / 16384)) (and_from _ _ (low (w / 128)) (and_from _ _ (low w) (and_from _ _ (low (v / 2097152)) (and_from _ _ (low (v / 16384)) refl))))
 
-end_word : (v : ℕ) (m : ℕ) → kind v ≡ 5 → third v ≡ 0 → m ≡ fourth v → word 5 (first v) (second v) 0 m ≡ v
-end_word v m k t e =
-    ap (λ (x : ℕ). word 5 (first v) (second v) x m) (sym t) ∙ ap (λ (x : ℕ). word 5 (first v) (second v) (third v) x) e ∙ from_parts v 5 k
-
--- the words of the record that two words make are these two
-row_back : (w v : ℕ) → kind w ≡ 4 → kind v ≡ 5 → third v ≡ 0 → fourth v ≤ 1 → row_words (row_of w v) ≡ w ∷ v ∷ []
-row_back w v k l t f =
-    ap (λ (x : ℕ). x ∷ word 5 (first v) (second v) 0 (cond (eqb (fourth v) 1) 1 0) ∷ []) (from_parts w 4 k)
-    ∙ ap (λ (x : ℕ). w ∷ x ∷ []) (end_word v (cond (eqb (fourth v) 1) 1 0) l t (mark_of (fourth v) f))
-
-member_back : (w v : ℕ) → kind w ≡ 6 → kind v ≡ 5 → third v ≡ 0 → fourth v ≤ 0 → member_words (member_of w v) ≡ w ∷ v ∷ []
-member_back w v k l t f =
-    ap (λ (x : ℕ). x ∷ word 5 (first v) (second v) 0 0 ∷ []) (from_parts w 6 k)
-    ∙ ap (λ (x : ℕ). w ∷ x ∷ []) (end_word v 0 l t (omega arith))
-
-pair_back : (w v : ℕ) → kind w ≡ 7 → kind v ≡ 5 → third v ≡ 0 → fourth v ≤ 0 → pair_words (pair_of w v) ≡ w ∷ v ∷ []
-pair_back w v k l t f =
-    ap (λ (x : ℕ). x ∷ word 5 (first v) (second v) 0 0 ∷ []) (from_parts w 7 k)
-    ∙ ap (λ (x : ℕ). w ∷ x ∷ []) (end_word v 0 l t (omega arith))
+-- the words of the entry that two words make are these two
+words_back : (k w v m : ℕ) → kind w ≡ k → kind v ≡ 5 → third v ≡ 0 → m ≡ fourth v → two_words k (first w) (id_of w v) m ≡ w ∷ v ∷ []
+words_back k w v m e l t f =
+    let z : word 5 (first v) (second v) 0 m ≡ word 5 (first v) (second v) (third v) (fourth v) = rw (f, t) in
+    ap (λ (x : ℕ). x ∷ word 5 (first v) (second v) 0 m ∷ []) (from_parts w k e) ∙ ap (λ (x : ℕ). w ∷ x ∷ []) (z ∙ from_parts v 5 l)
 
 one_more : {X : Type 0} (xs : List X) (x : X) (n : ℕ) → length xs < n → length (xs ++ x ∷ []) ≤ n
 one_more xs x n h = simp length-append (omega arith)
@@ -71,66 +57,22 @@ one_more xs x n h = simp length-append (omega arith)
 tally-kept : (rows : List Row) (r : Row) → ((a : ℕ) → tally a rows ≤ 21) → tally r.address rows < 21 → (a : ℕ) → tally a (rows ++ r ∷ []) ≤ 21
 tally-kept rows r h l a =
     let e = tally_push a rows r in
-    ⊎_elim
-    (λ (s : (r.address ≡ a)).
-    let t : tally a rows < 21 = subst (λ (x : ℕ). tally x rows < 21) s l in
-    let q = cond-true {A = ℕ} (eqb a r.address) 1 0 (eq-eqb _ _ (sym s)) in
-    omega (arith, e, q))
-    (λ (s : (r.address ≡ a → ⊥)).
-    let q = cond-false {A = ℕ} (eqb a r.address) 1 0 (ne_eqb _ _ (λ t. s (sym t))) in
     let t = h a in
-    omega (arith, e, q))
-    (cases_eq r.address a)
+    grind (arith, nat_tests)
 
-orderly_row : (c : Contents) (r : Row) → Orderly c → row_ranged r ≡ true → after row_key c.rows r ≡ true → length c.rows < 64 → tally r.address c.rows < 21 → Orderly (with_row c r)
-orderly_row c r o g u l t = record {
-  eleven = o.eleven;
-  low = o.low;
-  block = o.block;
-  rows = every_push row_ranged c.rows r o.rows g;
-  rows_rise = rising_after row_key c.rows r o.rows_rise u;
-  rows_few = one_more c.rows r 64 l;
-  rows_at = tally-kept c.rows r o.rows_at t;
-  members = o.members;
-  members_rise = o.members_rise;
-  members_few = o.members_few;
-  pairs = o.pairs;
-  pairs_rise = o.pairs_rise;
-  pairs_few = o.pairs_few;
+sound_push : (rows : List Row) (r : Row) → Sound rows → row_ranged r ≡ true → after row_key rows r ≡ true → length rows < 64 → tally r.address rows < 21 → Sound (rows ++ r ∷ [])
+sound_push rows r s g u l t = record {
+  few = one_more rows r 64 l;
+  each = tally-kept rows r s.each t;
+  ranges = and_push all_ranged row_ranged refl (λ _ _. refl) rows r ∙ and_from _ _ s.ranges g;
+  order = rising_after row_key rows r s.order u;
 }
 
-orderly_member : (c : Contents) (m : Member) → Orderly c → member_ranged m ≡ true → after member_key c.members m ≡ true → length c.members < 16 → Orderly (with_member c m)
-orderly_member c m o g u l = record {
-  eleven = o.eleven;
-  low = o.low;
-  block = o.block;
-  rows = o.rows;
-  rows_rise = o.rows_rise;
-  rows_few = o.rows_few;
-  rows_at = o.rows_at;
-  members = every_push member_ranged c.members m o.members g;
-  members_rise = rising_after member_key c.members m o.members_rise u;
-  members_few = one_more c.members m 16 l;
-  pairs = o.pairs;
-  pairs_rise = o.pairs_rise;
-  pairs_few = o.pairs_few;
-}
-
-orderly_pair : (c : Contents) (p : Pair) → Orderly c → pair_ranged p ≡ true → after pair_key c.pairs p ≡ true → length c.pairs < 16 → Orderly (with_pair c p)
-orderly_pair c p o g u l = record {
-  eleven = o.eleven;
-  low = o.low;
-  block = o.block;
-  rows = o.rows;
-  rows_rise = o.rows_rise;
-  rows_few = o.rows_few;
-  rows_at = o.rows_at;
-  members = o.members;
-  members_rise = o.members_rise;
-  members_few = o.members_few;
-  pairs = every_push pair_ranged c.pairs p o.pairs g;
-  pairs_rise = rising_after pair_key c.pairs p o.pairs_rise u;
-  pairs_few = one_more c.pairs p 16 l;
+fit_push : {X : Type 0} (in_range : X → Bool) (key : X → Key) (xs : List X) (x : X) → Fit in_range key xs → in_range x ≡ true → after key xs x ≡ true → length xs < 16 → Fit in_range key (xs ++ x ∷ [])
+fit_push in_range key xs x f g u l = record {
+  ranges = and_push (every in_range) in_range refl (λ _ _. refl) xs x ∙ and_from _ _ f.ranges g;
+  order = rising_after key xs x f.order u;
+  few = one_more xs x 16 l;
 }
 
 -- what one record does to the contents so far
@@ -147,60 +89,57 @@ chosen k j x y h = cond-true _ _ _ (eq-eqb k j h)
 module _ (n last : ℕ) (c : Contents) (w v : ℕ) (ft : fits n w ≡ true) (rm : room c w ≡ true) (k5 : kind v ≡ 5) (fe : fits_end w v ≡ true) (up : rises c w v ≡ true) (o : Orderly c) (p : Placed last c) (le : last ≤ kind w) where
   grown-row : kind w ≡ 4 → Grown c w v (kind w) (entered c w v)
   grown-row k =
-      let n8 : kind w ≡ 8 → ⊥ = λ e. omega arith in
-      let n6 : kind w ≡ 6 → ⊥ = λ e. omega arith in
-      let f : is_address (first w) ≡ true = sym (choose (kind w) 8 _ _ n8 ∙ choose (kind w) 6 _ _ n6) ∙ ft in
-      let r = and_parts _ _ (sym (choose (kind w) 8 _ _ n8 ∙ chosen (kind w) 4 _ _ k) ∙ rm) in
-      let u : after row_key c.rows (row_of w v) ≡ true = sym (chosen (kind w) 4 _ _ k) ∙ up in
+      let f : is_address (first w) ≡ true = rw k at ft in
+      let q : (ltb (length c.rows) 64 && ltb (tally (first w) c.rows) 21) ≡ true = rw k at rm in
+      let r = and_parts _ _ q in
+      let u : after row_key c.rows (row_of w v) ≡ true = rw k at up in
       let e = and_parts _ _ fe in
-      let m : fourth v ≤ 1 = let z = leb-true _ _ e.1 in let q = chosen {X = ℕ} (kind w) 4 1 0 k in omega (arith, z, q) in
-      let d : entered c w v ≡ with_row c (row_of w v) = chosen (kind w) 4 _ _ k in
+      let m : fourth v ≤ 1 = leb-true _ 1 (rw k at e.1) in
+      let d : entered c w v ≡ with_row c (row_of w v) = rw k in
       let em = p.no_members (omega arith) in
       let ep = p.no_pairs (omega arith) in
-      let b = row_back w v k k5 (eqb-true _ _ e.0) m in
+      let b = words_back 4 w v _ k k5 (eqb-true _ _ e.0) (mark_of (fourth v) m) in
       let grown : so_far (with_row c (row_of w v)) ≡ so_far c ++ (w ∷ v ∷ []) =
       ap (λ (x : List ℕ). head_words c.identity c.block ++ (x ++ (laid member_words c.members ++ laid pair_words c.pairs))) (laid_push row_words c.rows (row_of w v) ∙ ap (λ (x : List ℕ). laid row_words c.rows ++ x) b)
       ∙ append-row (head_words c.identity c.block) (laid row_words c.rows) (laid member_words c.members) (laid pair_words c.pairs) (w ∷ v ∷ []) (ap (laid member_words) em) (ap (laid pair_words) ep) in
       let kept : Placed (kind w) (with_row c (row_of w v)) = record { no_members = λ _. em; no_pairs = λ _. ep } in
-      let ord = orderly_row c (row_of w v) o (and_from _ _ f (id_good w v)) u (ltb-true _ _ r.0) (ltb-true _ _ r.1) in
+      let sound = sound_push c.rows (row_of w v) o.rows (and_from _ _ f (id_good w v)) u (ltb-true _ _ r.0) (ltb-true _ _ r.1) in
+      let ord : Orderly (with_row c (row_of w v)) = record { identity = o.identity; block = o.block; rows = sound; members = o.members; pairs = o.pairs } in
       subst (λ (x : Contents). Grown c w v (kind w) x) (sym d) (grown, ord, kept)
 
   grown-member : kind w ≡ 6 → Grown c w v (kind w) (entered c w v)
   grown-member k =
-      let n8 : kind w ≡ 8 → ⊥ = λ e. omega arith in
-      let n4 : kind w ≡ 4 → ⊥ = λ e. omega arith in
-      let f : is_set (first w) ≡ true = sym (choose (kind w) 8 _ _ n8 ∙ chosen (kind w) 6 _ _ k) ∙ ft in
-      let r : ltb (length c.members) 16 ≡ true = sym (choose (kind w) 8 _ _ n8 ∙ choose (kind w) 4 _ _ n4 ∙ chosen (kind w) 6 _ _ k) ∙ rm in
-      let u : after member_key c.members (member_of w v) ≡ true = sym (choose (kind w) 4 _ _ n4 ∙ chosen (kind w) 6 _ _ k) ∙ up in
+      let f : is_set (first w) ≡ true = rw k at ft in
+      let r : ltb (length c.members) 16 ≡ true = rw k at rm in
+      let u : after member_key c.members (member_of w v) ≡ true = rw k at up in
       let e = and_parts _ _ fe in
-      let m : fourth v ≤ 0 = let z = leb-true _ _ e.1 in let q = choose {X = ℕ} (kind w) 4 1 0 n4 in omega (arith, z, q) in
-      let d : entered c w v ≡ with_member c (member_of w v) = choose (kind w) 4 _ _ n4 ∙ chosen (kind w) 6 _ _ k in
+      let m : fourth v ≤ 0 = leb-true _ 0 (rw k at e.1) in
+      let d : entered c w v ≡ with_member c (member_of w v) = rw k in
       let ep = p.no_pairs (omega arith) in
-      let b = member_back w v k k5 (eqb-true _ _ e.0) m in
+      let b = words_back 6 w v 0 k k5 (eqb-true _ _ e.0) (omega arith) in
       let grown : so_far (with_member c (member_of w v)) ≡ so_far c ++ (w ∷ v ∷ []) =
       ap (λ (x : List ℕ). head_words c.identity c.block ++ (laid row_words c.rows ++ (x ++ laid pair_words c.pairs))) (laid_push member_words c.members (member_of w v) ∙ ap (λ (x : List ℕ). laid member_words c.members ++ x) b)
       ∙ append_member (head_words c.identity c.block) (laid row_words c.rows) (laid member_words c.members) (laid pair_words c.pairs) (w ∷ v ∷ []) (ap (laid pair_words) ep) in
       let kept : Placed (kind w) (with_member c (member_of w v)) = record { no_members = λ h. absurd (omega arith); no_pairs = λ _. ep } in
-      let ord = orderly_member c (member_of w v) o (and_from _ _ f (id_good w v)) u (ltb-true _ _ r) in
+      let fit = fit_push member_ranged member_key c.members (member_of w v) o.members (and_from _ _ f (id_good w v)) u (ltb-true _ _ r) in
+      let ord : Orderly (with_member c (member_of w v)) = record { identity = o.identity; block = o.block; rows = o.rows; members = fit; pairs = o.pairs } in
       subst (λ (x : Contents). Grown c w v (kind w) x) (sym d) (grown, ord, kept)
 
   grown-pair : kind w ≡ 7 → Grown c w v (kind w) (entered c w v)
   grown-pair k =
-      let n8 : kind w ≡ 8 → ⊥ = λ e. omega arith in
-      let n4 : kind w ≡ 4 → ⊥ = λ e. omega arith in
-      let n6 : kind w ≡ 6 → ⊥ = λ e. omega arith in
-      let f : is_address (first w) ≡ true = sym (choose (kind w) 8 _ _ n8 ∙ choose (kind w) 6 _ _ n6) ∙ ft in
-      let r : ltb (length c.pairs) 16 ≡ true = sym (choose (kind w) 8 _ _ n8 ∙ choose (kind w) 4 _ _ n4 ∙ choose (kind w) 6 _ _ n6) ∙ rm in
-      let u : after pair_key c.pairs (pair_of w v) ≡ true = sym (choose (kind w) 4 _ _ n4 ∙ choose (kind w) 6 _ _ n6) ∙ up in
+      let f : is_address (first w) ≡ true = rw k at ft in
+      let r : ltb (length c.pairs) 16 ≡ true = rw k at rm in
+      let u : after pair_key c.pairs (pair_of w v) ≡ true = rw k at up in
       let e = and_parts _ _ fe in
-      let m : fourth v ≤ 0 = let z = leb-true _ _ e.1 in let q = choose {X = ℕ} (kind w) 4 1 0 n4 in omega (arith, z, q) in
-      let d : entered c w v ≡ with_pair c (pair_of w v) = choose (kind w) 4 _ _ n4 ∙ choose (kind w) 6 _ _ n6 in
-      let b = pair_back w v k k5 (eqb-true _ _ e.0) m in
+      let m : fourth v ≤ 0 = leb-true _ 0 (rw k at e.1) in
+      let d : entered c w v ≡ with_pair c (pair_of w v) = rw k in
+      let b = words_back 7 w v 0 k k5 (eqb-true _ _ e.0) (omega arith) in
       let grown : so_far (with_pair c (pair_of w v)) ≡ so_far c ++ (w ∷ v ∷ []) =
       ap (λ (x : List ℕ). head_words c.identity c.block ++ (laid row_words c.rows ++ (laid member_words c.members ++ x))) (laid_push pair_words c.pairs (pair_of w v) ∙ ap (λ (x : List ℕ). laid pair_words c.pairs ++ x) b)
       ∙ append_pair (head_words c.identity c.block) (laid row_words c.rows) (laid member_words c.members) (laid pair_words c.pairs) (w ∷ v ∷ []) in
       let kept : Placed (kind w) (with_pair c (pair_of w v)) = record { no_members = λ h. absurd (omega arith); no_pairs = λ h. absurd (omega arith) } in
-      let ord = orderly_pair c (pair_of w v) o (and_from _ _ f (id_good w v)) u (ltb-true _ _ r) in
+      let fit = fit_push pair_ranged pair_key c.pairs (pair_of w v) o.pairs (and_from _ _ f (id_good w v)) u (ltb-true _ _ r) in
+      let ord : Orderly (with_pair c (pair_of w v)) = record { identity = o.identity; block = o.block; rows = o.rows; members = o.members; pairs = fit } in
       subst (λ (x : Contents). Grown c w v (kind w) x) (sym d) (grown, ord, kept)
 
 kinds : (last k : ℕ) → follows last k ≡ true → (k ≡ 8 → ⊥) → (last ≤ k) × ((k ≡ 4) ⊎ ((k ≡ 6) ⊎ (k ≡ 7)))
@@ -222,14 +161,14 @@ grown_one n last c w v h n8 q o p =
     (λ (e : (kind w ≡ 6) ⊎ (kind w ≡ 7)). ⊎_elim (grown-member n last c w v a.1 a.2 k5 b.1 b.2 o p s.0) (grown-pair n last c w v a.1 a.2 k5 b.1 b.2 o p s.0) e)
     s.1
 
-pub option_cases : (o : Option Refusal) → ((e : Refusal) × (o ≡ Some e)) ⊎ (o ≡ None)
+option_cases : (o : Option Refusal) → ((e : Refusal) × (o ≡ Some e)) ⊎ (o ≡ None)
 option_cases (Some e) = inl (e, refl)
 option_cases None = inr refl
 
-pub not_both : (e : Refusal) (n : ℕ) (c : Contents) → refused e n ≡ accepted c → ⊥
-not_both e n c h = let z : ◌≡◌ {A = ℕ} 0 1 = cc in omega arith
+not_both : (e : Refusal) (n : ℕ) (c : Contents) → refused e n ≡ accepted c → ⊥
+not_both e n c h = cc
 
-pub same-contents : (c d : Contents) → accepted c ≡ accepted d → c ≡ d
+same-contents : (c d : Contents) → accepted c ≡ accepted d → c ≡ d
 same-contents c d h = cc
 
 abbrev Ends : Contents → List ℕ → Contents → Type 0

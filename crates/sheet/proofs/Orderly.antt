@@ -1,10 +1,12 @@
 -- Ranges, limits and orders of contents, list by list; and rows of which no two collide, by their places.
-use Rattle.std.proofs.Common.{◌≡◌, ℕ, ◌<◌, ◌≤◌, Bool, true, false, List, [], length, get_or, take}
-use Rattle.rising.specs.Lists.{rising}
-use Rattle.message.specs.Bytes.{sevens, is_block}
-use Rattle.message.specs.Rows.{row_key, ranged}
+use Rattle.std.proofs.Common.{◌≡◌, ℕ, ◌<◌, ◌≤◌, Bool, true, false, List, length, get_or, take}
+use Rattle.rising.specs.Order.{Key}
+use Rattle.rising.specs.Lists.{Rising}
+use Rattle.message.specs.Bytes.{is_identity, is_block}
+use Rattle.message.specs.Rows.{ranged}
 use Rattle.message.specs.declared.row.Row.{Row}
-use Rattle.host.specs.Rows.{tally}
+use Rattle.host.specs.Rows.{Sound}
+use Rattle.host.specs.Tables.{blank}
 use Rattle.layers.specs.Lists.{every, member_key, member_ranged, pair_key, pair_ranged}
 use Rattle.layers.specs.declared.member.Member.{Member}
 use Rattle.sheet.specs.Contents.{Contents}
@@ -12,9 +14,6 @@ use Rattle.sheet.specs.Collisions.{collide, hit}
 
 abbrev pub row_ranged : Row → Bool
 row_ranged r = ranged r.address r.id
-
-abbrev pub blank : Row
-blank = record { address = 0; id = []; on = false }
 
 -- no two rows are on in one set at one address
 abbrev pub Apart : List Member → List Row → Type 0
@@ -24,17 +23,15 @@ Apart ms rows = (j k : ℕ) → j < k → k < length rows → collide ms (get_or
 abbrev pub Clear : List Member → List Row → Type 0
 Clear ms rows = (k : ℕ) → k < length rows → hit ms (get_or rows k blank) (take k rows) ≡ false
 
+-- entries in range, rising, and at most 16
+pub record Fit {X : Type 0} (in_range : X → Bool) (key : X → Key) (xs : List X) : Type 0 where
+  pub ranges : every in_range xs ≡ true
+  pub order : Rising key xs
+  pub few : length xs ≤ 16
+
 pub record Orderly (c : Contents) : Type 0 where
-  pub eleven : length c.identity ≡ 11
-  pub low : sevens c.identity ≡ true
+  pub identity : is_identity c.identity ≡ true
   pub block : is_block c.block ≡ true
-  pub rows : every row_ranged c.rows ≡ true
-  pub rows_rise : rising row_key c.rows ≡ true
-  pub rows_few : length c.rows ≤ 64
-  pub rows_at : (a : ℕ) → tally a c.rows ≤ 21
-  pub members : every member_ranged c.members ≡ true
-  pub members_rise : rising member_key c.members ≡ true
-  pub members_few : length c.members ≤ 16
-  pub pairs : every pair_ranged c.pairs ≡ true
-  pub pairs_rise : rising pair_key c.pairs ≡ true
-  pub pairs_few : length c.pairs ≤ 16
+  pub rows : Sound c.rows
+  pub members : Fit member_ranged member_key c.members
+  pub pairs : Fit pair_ranged pair_key c.pairs

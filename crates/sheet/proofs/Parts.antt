@@ -1,7 +1,8 @@
 -- Words and their parts; lists of entries and their words.
-use Rattle.std.proofs.Common.{◌≡◌, ℕ, zero, suc, ◌+◌, ◌-◌, ◌*◌, ◌/◌, ◌<◌, ◌≤◌, Bool, true, cond, eqb, List, [], ◌∷◌, ◌++◌, length, get_or, sym, refl, ap, ◌∙◌, ⊎_elim, append_assoc, append-nil, arith}
+use Rattle.std.proofs.Common.{◌≡◌, ℕ, ◌+◌, ◌-◌, ◌*◌, ◌/◌, ◌<◌, ◌≤◌, true, cond, eqb, List, [], ◌∷◌, ◌++◌, length, get_or, sym, refl, ap, ◌∙◌, ⊎_elim, append_assoc, append-nil, arith}
 use native.Mathlib.Nat.{div-div-eq-div-mul}
-use Rattle.std.proofs.lemmas.Bool.{and_parts, and_from, eq-eqb, cases_lt}
+use Rattle.std.proofs.lemmas.Bool.{and_parts, eq-eqb, cases_lt}
+use Rattle.std.proofs.lemmas.List.{get_or_default}
 use Rattle.rising.specs.Order.{Key, Before}
 use Rattle.rising.specs.Lists.{leads, Rising}
 use Rattle.rising.proofs.Lists.{rising_at, rising_push}
@@ -11,7 +12,6 @@ use Rattle.sheet.specs.Words.{kind, first, second, third, fourth, amount, word}
 use Rattle.host.specs.Rows.{tally}
 use Rattle.sheet.specs.Contents.{after}
 use Rattle.sheet.specs.Layout.{laid}
-use Rattle.layers.specs.Lists.{every}
 use Rattle.sheet.proofs.Plain.{after_last}
 
 -- a word is made of its parts
@@ -25,35 +25,27 @@ from_parts w k h =
 pub from_amount : (w : ℕ) → kind w ≡ 8 → w ≡ 8 * 268435456 + amount w
 from_amount w h = omega arith
 
-module _ (k a b c d : ℕ) (la : a < 128) (lb : b < 128) (lc : c < 128) (ld : d < 128) where
-  pub kind_word : kind (word k a b c d) ≡ k
-  kind_word = omega arith
+-- a word, and what its parts are
+pub record Fields (k a b c d w : ℕ) : Type 0 where
+  pub kind_is : kind w ≡ k
+  pub first_is : first w ≡ a
+  pub second_is : second w ≡ b
+  pub third_is : third w ≡ c
+  pub fourth_is : fourth w ≡ d
 
-  pub first_word : first (word k a b c d) ≡ a
-  first_word = omega arith
-
-  pub second_word : second (word k a b c d) ≡ b
-  second_word = omega arith
-
-  pub third_word : third (word k a b c d) ≡ c
-  third_word = omega arith
-
-  pub fourth_word : fourth (word k a b c d) ≡ d
-  fourth_word = omega arith
+pub fields : (k a b c d : ℕ) → a < 128 → b < 128 → c < 128 → d < 128 → Fields k a b c d (word k a b c d)
+fields k a b c d la lb lc ld = record {
+  kind_is = omega arith;
+  first_is = omega arith;
+  second_is = omega arith;
+  third_is = omega arith;
+  fourth_is = omega arith;
+}
 
 module _ {X : Type 0} where
   pub laid_push : (f : X → List ℕ) (xs : List X) (x : X) → laid f (xs ++ x ∷ []) ≡ laid f xs ++ f x
   laid_push f [] x = simp append-nil
   laid_push f (y ∷ ys) x = ap (λ (z : List ℕ). f y ++ z) (laid_push f ys x) ∙ sym (append_assoc (f y) (laid f ys) (f x))
-
-  pub every_push : (p : X → Bool) (xs : List X) (x : X) → every p xs ≡ true → p x ≡ true → every p (xs ++ x ∷ []) ≡ true
-  every_push p [] x h q = and_from _ _ q refl
-  every_push p (y ∷ ys) x h q = let s = and_parts (p y) (every p ys) h in and_from _ _ s.0 (every_push p ys x s.1 q)
-
-  get_d_any : (xs : List X) (i : ℕ) (d e : X) → i < length xs → get_or xs i d ≡ get_or xs i e
-  get_d_any [] i d e l = absurd (omega arith)
-  get_d_any (x ∷ xs) zero d e l = refl
-  get_d_any (x ∷ xs) (suc i) d e l = get_d_any xs i d e (omega arith)
 
   pub rising_after : (key : X → Key) (xs : List X) (x : X) → Rising key xs → after key xs x ≡ true → Rising key (xs ++ x ∷ [])
   rising_after key xs x up h =
@@ -61,7 +53,7 @@ module _ {X : Type 0} where
       let y : X = get_or xs (length xs - 1) d in
       let n : 0 < length xs = omega arith in
       let i : length xs - 1 < length xs = omega arith in
-      let r : y ≡ get_or xs (length xs - 1) y = get_d_any xs (length xs - 1) d y i in
+      let r : y ≡ get_or xs (length xs - 1) y = get_or_default xs (length xs - 1) d y i in
       let b : Before (key y) (key x) = sym (after_last key xs x y d n r) ∙ h in
       ⊎_elim
       (λ (e : k < length xs - 1). before_trans (key (get_or xs k d)) (key y) (key x) (rising_at key xs up k (length xs - 1) d e i) b)

@@ -1,11 +1,13 @@
 -- The pass over the rows finds nothing exactly if no two of them collide.
 use Rattle.std.proofs.Common.{◌≡◌, ℕ, zero, suc, ◌+◌, ◌<◌, true, false, List, [], ◌∷◌, ◌++◌, length, get_or, take, Some, None, sym, refl, ap, ◌∙◌, ⊎_elim, append_assoc, append-nil, arith}
-use Rattle.std.proofs.lemmas.Bool.{or_parts, or_from, cases_Bool, cond-true, cond-false}
+use Rattle.std.proofs.lemmas.Bool.{or_parts, cases_Bool, cond-true, cond-false}
+use Rattle.std.proofs.lemmas.List.Recursion.{or_from_places}
 use Rattle.std.proofs.lemmas.List.{get_or-take, length-take-le}
 use Rattle.message.specs.declared.row.Row.{Row}
+use Rattle.host.specs.Tables.{blank}
 use Rattle.layers.specs.declared.member.Member.{Member}
 use Rattle.sheet.specs.Collisions.{collide, hit, clash}
-use Rattle.sheet.proofs.Orderly.{blank, Apart, Clear}
+use Rattle.sheet.proofs.Orderly.{Apart, Clear}
 
 module _ (ms : List Member) where
   miss-at : (r : Row) (xs : List Row) → hit ms r xs ≡ false → (j : ℕ) → j < length xs → collide ms r (get_or xs j blank) ≡ false
@@ -13,14 +15,10 @@ module _ (ms : List Member) where
   miss-at r (x ∷ xs) h zero l = (or_parts _ _ h).0
   miss-at r (x ∷ xs) h (suc j) l = miss-at r xs (or_parts (collide ms r x) _ h).1 j (omega arith)
 
-  miss-all : (r : Row) (xs : List Row) → ((j : ℕ) → j < length xs → collide ms r (get_or xs j blank) ≡ false) → hit ms r xs ≡ false
-  miss-all r [] h = refl
-  miss-all r (x ∷ xs) h = or_from _ _ (h 0 (omega arith)) (miss-all r xs (λ j l. h (suc j) (omega arith)))
-
   not-hit : (n : ℕ) (earlier : List Row) (r : Row) (rs : List Row) → clash ms n earlier (r ∷ rs) ≡ None → (hit ms r earlier ≡ false) × (clash ms (n + 2) (earlier ++ r ∷ []) rs ≡ None)
   not-hit n earlier r rs h =
       ⊎_elim
-      (λ (t : (hit ms r earlier ≡ true)). absurd (let e = sym (cond-true _ (Some n) (clash ms (n + 2) (earlier ++ r ∷ []) rs) t) ∙ h in let z : ◌≡◌ {A = ℕ} 0 1 = cc in omega arith))
+      (λ (t : (hit ms r earlier ≡ true)). absurd (let e : Some n ≡ None = sym (cond-true _ (Some n) (clash ms (n + 2) (earlier ++ r ∷ []) rs) t) ∙ h in cc))
       (λ (t : (hit ms r earlier ≡ false)). (t, sym (cond-false _ (Some n) (clash ms (n + 2) (earlier ++ r ∷ []) rs) t) ∙ h))
       (cases_Bool (hit ms r earlier))
 
@@ -43,7 +41,7 @@ module _ (ms : List Member) where
 
   pub clear_from : (rs : List Row) → Apart ms rs → Clear ms rs
   clear_from rs h k l =
-      miss-all (get_or rs k blank) (take k rs) (λ j m.
+      or_from_places (hit ms (get_or rs k blank)) (collide ms (get_or rs k blank)) refl (λ _ _. refl) (take k rs) blank (λ j m.
       let s = length-take-le k rs (omega arith) in
       let b : j < k = omega arith in
       ap (collide ms (get_or rs k blank)) (get_or-take k rs j blank b) ∙ h j k b l)

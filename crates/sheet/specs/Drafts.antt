@@ -1,5 +1,4 @@
 -- What a draft says so far.
-use Rattle.std.specs.Prelude.{take}
 use Rattle.sheet.specs.declared.draft.Draft.{Draft}
 use Rattle.sheet.specs.Contents.{Contents}
 
@@ -8,7 +7,7 @@ contents d =
     record {
       identity = d.identity.bytes;
       block = d.identity.block;
-      rows = take d.rows.count d.rows.slots;
-      members = take d.members.count d.members.slots;
-      pairs = take d.pairs.count d.pairs.slots;
+      rows = d.rows;
+      members = d.members;
+      pairs = d.pairs;
     }

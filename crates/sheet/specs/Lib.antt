@@ -5,6 +5,7 @@ pub mod Reading
 pub mod Layout
 pub mod Valid
 pub mod Law
+pub mod Entries
 pub mod Drafts
 pub mod Told
 pub mod Piles

@@ -68,13 +68,13 @@ abbrev pub ending : Contents → (w v : ℕ) → Option Refusal
 ending c w v = fault (kind v == 5) (fits_end w v) (rises c w v)
 
 abbrev pub with_row : Contents → Row → Contents
-with_row c r = record { identity = c.identity; block = c.block; rows = c.rows ++ r ∷ []; members = c.members; pairs = c.pairs }
+with_row c r = record c { rows = c.rows ++ r ∷ [] }
 
 abbrev pub with_member : Contents → Member → Contents
-with_member c m = record { identity = c.identity; block = c.block; rows = c.rows; members = c.members ++ m ∷ []; pairs = c.pairs }
+with_member c m = record c { members = c.members ++ m ∷ [] }
 
 abbrev pub with_pair : Contents → Pair → Contents
-with_pair c p = record { identity = c.identity; block = c.block; rows = c.rows; members = c.members; pairs = c.pairs ++ p ∷ [] }
+with_pair c p = record c { pairs = c.pairs ++ p ∷ [] }
 
 -- the contents with the entry of two words
 abbrev pub entered : Contents → (w v : ℕ) → Contents

@@ -5,6 +5,9 @@
 mod body;
 mod collisions;
 mod draft;
+mod entry;
+mod kind;
+mod opening;
 pub mod read;
 pub mod refusal;
 pub mod sheet;

@@ -3,18 +3,19 @@ ghost use Rattle.std.specs.Prelude.{◌≡◌, Ok};
 ghost use Rattle.sheet.specs.Contents.{Contents};
 ghost use Rattle.sheet.specs.Law.{Exactly};
 ghost use Rattle.sheet.specs.Layout.{flat, layout};
-ghost use Rattle.sheet.specs.Reading.{accepted, reads, identity_of, header, settled, sized};
+ghost use Rattle.sheet.specs.Reading.{accepted, reads, reads_words, identity_of, header, settled, sized};
 ghost use Rattle.sheet.specs.Told.{told, says};
 ghost use Rattle.sheet.specs.Valid.{Valid};
+ghost use Rattle.sheet.specs.Words.{words};
 
 use crate::body::body;
 use crate::collisions::clash;
 use crate::draft::Draft;
+use crate::kind::Kind;
 use crate::refusal::SheetRefusal;
 use crate::sheet::Sheet;
 use crate::sheet::making::make;
-use crate::slots::{MemberSlots, PairSlots, RowSlots};
-use crate::word::{first, fourth, kind, second, third, word_at};
+use crate::word::{first, fourth, second, split_word, third};
 use message::{Identity, Refusal};
 
 // The eleven identity bytes in the first three words.
@@ -40,35 +41,37 @@ fn identity_of(u: u32, v: u32, w: u32) -> [u8; 11]
 fn header(u: u32, v: u32, w: u32) -> Result<Draft, SheetRefusal>
     ensures { told result ≡ header u v w }
 {
-    if kind(u) != 1 {
-        return Err(SheetRefusal::order(0));
+    if !Kind::First.is_of(u) {
+        return Err(SheetRefusal::new(Refusal::SheetOrder, 0));
     }
-    if kind(v) != 2 {
-        return Err(SheetRefusal::order(1));
+    if !Kind::Second.is_of(v) {
+        return Err(SheetRefusal::new(Refusal::SheetOrder, 1));
     }
-    if kind(w) != 3 {
-        return Err(SheetRefusal::order(2));
+    if !Kind::Third.is_of(w) {
+        return Err(SheetRefusal::new(Refusal::SheetOrder, 2));
     }
     match Identity::new(identity_of(u, v, w), fourth(w)) {
-        Ok(identity) => Ok(Draft {
-            identity,
-            rows: RowSlots::none(),
-            members: MemberSlots::none(),
-            pairs: PairSlots::none(),
-        }),
-        Err(refusal) => Err(SheetRefusal { refusal, word: 2 }),
+        Ok(identity) => Ok(Draft::new(identity)),
+        Err(refusal) => Err(SheetRefusal::new(refusal, 2)),
     }
+}
+
+// Reads the words: the first three, and those after them.
+fn read_words(bytes: &[u8]) -> Result<Draft, SheetRefusal>
+    ensures { told result ≡ reads_words (words bytes.now) }
+{
+    let (u, bytes) = split_word(bytes).ok_or(SheetRefusal::new(Refusal::SheetOrder, 0))?;
+    let (v, bytes) = split_word(bytes).ok_or(SheetRefusal::new(Refusal::SheetOrder, 1))?;
+    let (w, bytes) = split_word(bytes).ok_or(SheetRefusal::new(Refusal::SheetOrder, 2))?;
+    body(bytes, header(u, v, w)?)
 }
 
 // Refuses two rows that are on in one set at one address.
 fn settle(draft: Draft) -> Result<Draft, SheetRefusal>
     ensures { told result ≡ settled (told (Ok draft)) }
 {
-    match clash(draft.members.listed(), draft.rows.listed()) {
-        Some(word) => Err(SheetRefusal {
-            refusal: Refusal::SetCollision,
-            word,
-        }),
+    match clash(draft.members.as_slice(), draft.rows.as_slice()) {
+        Some(word) => Err(SheetRefusal::new(Refusal::SetCollision, word)),
         None => Ok(draft),
     }
 }
@@ -77,7 +80,7 @@ fn settle(draft: Draft) -> Result<Draft, SheetRefusal>
 fn is_sized(length: usize) -> bool
     ensures { result ≡ sized length }
 {
-    (16 <= length) & ((length <= 784) & (length % 4 == 0))
+    (16..=784).contains(&length) && length % 4 == 0
 }
 
 // Reads the words, and then looks for two rows on in one set.
@@ -85,14 +88,9 @@ fn read_draft(bytes: &[u8]) -> Result<Draft, SheetRefusal>
     ensures { told result ≡ reads bytes.now }
 {
     if !is_sized(bytes.len()) {
-        return Err(SheetRefusal {
-            refusal: Refusal::SheetLength,
-            word: 0,
-        });
+        return Err(SheetRefusal::new(Refusal::SheetLength, 0));
     }
-    let start = header(word_at(bytes, 0), word_at(bytes, 1), word_at(bytes, 2))?;
-    let draft = body(bytes, start)?;
-    settle(draft)
+    settle(read_words(bytes)?)
 }
 
 /// Reads a sheet: what it holds, or why and at which word it is refused. It is accepted exactly if its bytes are the layout
@@ -103,8 +101,6 @@ pub fn read_sheet(bytes: &[u8]) -> Result<Sheet, SheetRefusal>
     ensures all { (c : Contents) → Valid c → bytes.now ≡ flat (layout c) → says result ≡ accepted c }
     ensures law { Exactly }
 {
-    match read_draft(bytes) {
-        Ok(draft) => Ok(make(&draft)),
-        Err(refusal) => Err(refusal),
-    }
+    let draft = read_draft(bytes)?;
+    Ok(make(&draft))
 }

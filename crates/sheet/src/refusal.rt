@@ -19,13 +19,15 @@ enum Place {
     SecondOfEntry,
 }
 
-fn place_of(word: usize) -> Place {
-    if word < 3 {
-        Place::Header
-    } else if word % 2 == 1 {
-        Place::FirstOfEntry
-    } else {
-        Place::SecondOfEntry
+impl Place {
+    fn of(word: usize) -> Place {
+        if word < 3 {
+            Place::Header
+        } else if word % 2 == 1 {
+            Place::FirstOfEntry
+        } else {
+            Place::SecondOfEntry
+        }
     }
 }
 
@@ -53,19 +55,15 @@ fn not_rising(place: Place) -> &'static str {
 }
 
 impl SheetRefusal {
-    // A kind out of order, at that word.
-    pub(crate) fn order(word: usize) -> SheetRefusal
-        ensures { (result.refusal ≡ Refusal.SheetOrder) × (result.word ≡ word) }
+    pub(crate) fn new(refusal: Refusal, word: usize) -> SheetRefusal
+        ensures { (result.refusal ≡ refusal) × (result.word ≡ word) }
     {
-        SheetRefusal {
-            refusal: Refusal::SheetOrder,
-            word,
-        }
+        SheetRefusal { refusal, word }
     }
 
     // What is wrong.
     fn sentence(self) -> &'static str {
-        let place = place_of(self.word);
+        let place = Place::of(self.word);
         match self.refusal {
             Refusal::SheetLength => "a sheet has 16 to 784 bytes, in whole words",
             Refusal::SheetOrder => out_of_order(place),

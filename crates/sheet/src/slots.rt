@@ -1,115 +1,55 @@
-//! Rows, members and pairs in fixed slots, of which the first `count` are in use.
-ghost use Rattle.std.specs.Prelude.{◌≡◌, ◌<◌, ◌≤◌, [], ◌∷◌, ◌++◌, length, take};
+//! Entries in fixed slots, of which the first `count` are in use.
+ghost use Rattle.std.specs.Prelude.{◌≡◌, ◌<◌, nat_lt, [], ◌∷◌, ◌++◌, length};
 
-use layers::{Member, Pair};
-use message::Row;
+use std::marker::Model;
 
-/// Up to 64 rows.
+/// Up to `N` entries of one kind, in the order in which they came. A clause sees just those in use.
 #[derive(Drop)]
-pub struct RowSlots {
-    pub slots: [Row; 64],
-    pub count: usize,
-    ghost within: { count ≤ 64 },
-    ghost whole: { length slots ≡ 64 },
+pub struct Slots<T, const N: usize> {
+    slots: [T; N],
+    count: usize,
 }
 
-/// Up to 16 members.
-#[derive(Drop)]
-pub struct MemberSlots {
-    pub slots: [Member; 16],
-    pub count: usize,
-    ghost within: { count ≤ 16 },
-    ghost whole: { length slots ≡ 16 },
+impl<T, const N: usize> Model for Slots<T, N> {
+    ghost use Rattle.std.specs.Prelude.{◌≡◌, ◌≤◌, List, length, take};
+
+    ghost Value = { List T };
+
+    ghost view = { λ s. take s.count s.slots };
+
+    ghost invariant = { λ s. (s.count ≤ N) × (length s.slots ≡ N) };
 }
 
-/// Up to 16 pairs.
-#[derive(Drop)]
-pub struct PairSlots {
-    pub slots: [Pair; 16],
-    pub count: usize,
-    ghost within: { count ≤ 16 },
-    ghost whole: { length slots ≡ 16 },
-}
-
-impl RowSlots {
-    pub(crate) fn none() -> RowSlots
-        ensures { take result.count result.slots ≡ [] }
+impl<T: Copy, const N: usize> Slots<T, N> {
+    // No entry yet: a blank lies in every slot.
+    pub(crate) fn new(blank: T) -> Slots<T, N>
+        ensures { result ≡ [] }
     {
-        let blank = Row {
-            address: 0,
-            id: [0; 5],
-            on: false,
-        };
-        RowSlots {
-            slots: [blank; 64],
+        Slots {
+            slots: [blank; N],
             count: 0,
         }
     }
 
-    pub(crate) fn listed(&self) -> &[Row]
-        ensures { result.now ≡ take self.now.count self.now.slots }
+    pub(crate) fn as_slice(&self) -> &[T]
+        ensures { result.now ≡ self.now }
     {
-        &self.slots[0..self.count]
+        let all = &self.slots[..];
+        &all[..self.count]
     }
 
-    pub(crate) fn push(&mut self, row: Row)
-        requires { length (take self.old.count self.old.slots) < 64 }
-        ensures { take self.new.count self.new.slots ≡ take self.old.count self.old.slots ++ row ∷ [] }
+    // Whether there is a slot for one more.
+    pub(crate) fn has_room(&self) -> bool
+        ensures { result ≡ nat_lt (length self.now) N }
     {
-        self.slots[self.count] = row;
-        self.count += 1;
-    }
-}
-
-impl MemberSlots {
-    pub(crate) fn none() -> MemberSlots
-        ensures { take result.count result.slots ≡ [] }
-    {
-        MemberSlots {
-            slots: [Member { id: [0; 5], set: 0 }; 16],
-            count: 0,
-        }
+        self.count < N
     }
 
-    pub(crate) fn listed(&self) -> &[Member]
-        ensures { result.now ≡ take self.now.count self.now.slots }
+    pub(crate) fn push(&mut self, entry: T)
+        requires { length self.old < N }
+        ensures { self.new ≡ self.old ++ entry ∷ [] }
     {
-        &self.slots[0..self.count]
-    }
-
-    pub(crate) fn push(&mut self, member: Member)
-        requires { length (take self.old.count self.old.slots) < 16 }
-        ensures { take self.new.count self.new.slots ≡ take self.old.count self.old.slots ++ member ∷ [] }
-    {
-        self.slots[self.count] = member;
-        self.count += 1;
-    }
-}
-
-impl PairSlots {
-    pub(crate) fn none() -> PairSlots
-        ensures { take result.count result.slots ≡ [] }
-    {
-        PairSlots {
-            slots: [Pair {
-                address: 0,
-                id: [0; 5],
-            }; 16],
-            count: 0,
-        }
-    }
-
-    pub(crate) fn listed(&self) -> &[Pair]
-        ensures { result.now ≡ take self.now.count self.now.slots }
-    {
-        &self.slots[0..self.count]
-    }
-
-    pub(crate) fn push(&mut self, pair: Pair)
-        requires { length (take self.old.count self.old.slots) < 16 }
-        ensures { take self.new.count self.new.slots ≡ take self.old.count self.old.slots ++ pair ∷ [] }
-    {
-        self.slots[self.count] = pair;
+        self.slots[self.count] = entry;
         self.count += 1;
     }
 }

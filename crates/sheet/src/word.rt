@@ -1,54 +1,43 @@
 //! Words of 32 bits, and their parts.
-ghost use Rattle.std.specs.Prelude.{◌≡◌, ◌+◌, ◌*◌, ◌<◌, ◌≤◌, length, slice_index};
-ghost use Rattle.sheet.specs.Words.{kind, first, second, third, fourth, amount, words};
+ghost use Rattle.std.specs.Prelude.{◌≡◌, ◌+◌, [], ◌∷◌, length, MatchOption};
+ghost use Rattle.sheet.specs.Words.{first, second, third, fourth, amount, words};
 
-// The word with the number `i`, its highest byte first.
-pub(crate) fn word_at(bytes: &[u8], i: usize) -> u32
-    requires { 4 * i + 4 ≤ length bytes.now }
-    ensures { result ≡ slice_index (words bytes.now) i }
+// The first word, its highest byte first, and the bytes after it; none if there are fewer than four.
+pub(crate) fn split_word(bytes: &[u8]) -> Option<(u32, &[u8])>
+    ensures { MatchOption result (words bytes.now ≡ []) (λ p. (words bytes.now ≡ p.0 ∷ words p.1.now) × (length bytes.now ≡ length p.1.now + 4)) }
 {
-    let a = bytes[4 * i] as u32;
-    let b = bytes[4 * i + 1] as u32;
-    let c = bytes[4 * i + 2] as u32;
-    let d = bytes[4 * i + 3] as u32;
-    a * 16_777_216 + (b * 65_536 + (c * 256 + d))
-}
-
-// The top four bits.
-pub(crate) fn kind(word: u32) -> u8
-    ensures { result ≡ kind word }
-{
-    (word / 268_435_456) as u8
+    let (word, rest) = bytes.split_first_chunk::<4>()?;
+    Some((u32::from_be_bytes(*word), rest))
 }
 
 // The four fields of seven bits, from the highest.
 pub(crate) fn first(word: u32) -> u8
     ensures { result ≡ first word }
 {
-    (word / 2_097_152 % 128) as u8
+    (word / 0x20_0000 % 0x80) as u8
 }
 
 pub(crate) fn second(word: u32) -> u8
     ensures { result ≡ second word }
 {
-    (word / 16_384 % 128) as u8
+    (word / 0x4000 % 0x80) as u8
 }
 
 pub(crate) fn third(word: u32) -> u8
     ensures { result ≡ third word }
 {
-    (word / 128 % 128) as u8
+    (word / 0x80 % 0x80) as u8
 }
 
 pub(crate) fn fourth(word: u32) -> u8
     ensures { result ≡ fourth word }
 {
-    (word % 128) as u8
+    (word % 0x80) as u8
 }
 
 // The 28 bits below the kind, as one number.
 pub(crate) fn amount(word: u32) -> u32
     ensures { result ≡ amount word }
 {
-    word % 268_435_456
+    word % 0x1000_0000
 }

@@ -2,13 +2,20 @@
 use crate::writing::Writing;
 use host::Host;
 use message::Refusal;
-use sheet::SheetRefusal;
+use sheet::{Sheet, SheetRefusal};
+use std::alloc::AllocError;
 use std::process::Abort;
 use std::test::Fail;
 
 // Refused with that number, at that word.
-fn refused(rt: &impl Abort, writing: &Writing, number: u8, word: usize, case: &str) {
-    match writing.read() {
+fn is_refusal(
+    rt: &impl Abort,
+    answer: Result<Sheet, SheetRefusal>,
+    number: u8,
+    word: usize,
+    case: &str,
+) {
+    match answer {
         Ok(_) => assert!(rt; false, "accepted: {case}"),
         Err(e) => {
             assert_eq!(rt; e.refusal.number(), number, "{case}");
@@ -17,26 +24,30 @@ fn refused(rt: &impl Abort, writing: &Writing, number: u8, word: usize, case: &s
     }
 }
 
+fn refused(rt: &impl Abort, writing: &Writing, number: u8, word: usize, case: &str) {
+    is_refusal(rt, writing.read(), number, word, case);
+}
+
 fn accepted(rt: &impl Abort, writing: &Writing, case: &str) {
     assert!(rt; writing.read().is_ok(), "{case}");
 }
 
 // All that a sheet may hold: 64 rows, 16 members and 16 pairs, in 195 words.
-fn full() -> Writing {
-    let mut writing = Writing::new();
-    writing.entries(4, 0, 21);
-    writing.entries(4, 1, 21);
-    writing.entries(4, 0x7E, 21);
-    writing.entries(4, 0x7F, 1);
-    writing.entries(6, 8, 16);
-    writing.entries(7, 0x7F, 16);
-    writing
+fn full(rt: &impl AllocGlobal) -> Result<Writing, AllocError> {
+    let mut writing = Writing::new(rt.alloc())?;
+    writing.entries(4, 0, 21)?;
+    writing.entries(4, 1, 21)?;
+    writing.entries(4, 0x7E, 21)?;
+    writing.entries(4, 0x7F, 1)?;
+    writing.entries(6, 8, 16)?;
+    writing.entries(7, 0x7F, 16)?;
+    Ok(writing)
 }
 
 #[test]
-fn the_longest_sheet(rt: HostRuntime) {
-    let mut writing = full();
-    writing.end();
+fn the_longest_sheet(rt: HostRuntime) -> Result<(), Fail> {
+    let mut writing = full(&rt)?;
+    writing.end()?;
     match writing.read() {
         Ok(sheet) => {
             assert_eq!(rt; sheet.rows().len(), 64);
@@ -45,41 +56,41 @@ fn the_longest_sheet(rt: HostRuntime) {
         }
         Err(_) => assert!(rt; false, "refused"),
     }
-    writing.end();
+    writing.end()?;
     refused(&rt, &writing, 13, 0, "one word more");
+    Ok(())
 }
 
 fn refused_length(rt: &impl Abort, writing: &Writing, length: usize, case: &str) {
-    match writing.read_bytes(length) {
-        Ok(_) => assert!(rt; false, "accepted: {case}"),
-        Err(e) => {
-            assert_eq!(rt; e.refusal.number(), 13, "{case}");
-            assert_eq!(rt; e.word, 0, "{case}");
-        }
-    }
+    is_refusal(rt, writing.read_bytes(length), 13, 0, case);
 }
 
 #[test]
-fn lengths(rt: HostRuntime) {
-    let mut writing = Writing::new();
-    writing.end();
+fn lengths(rt: HostRuntime) -> Result<(), Fail> {
+    let mut writing = Writing::new(rt.alloc())?;
+    writing.end()?;
     accepted(&rt, &writing, "no entry at all");
     refused_length(&rt, &writing, 0, "no byte");
     refused_length(&rt, &writing, 12, "three words");
     refused_length(&rt, &writing, 15, "a byte less than four words");
+    writing.put(0)?;
     refused_length(&rt, &writing, 17, "a byte more than four words");
     writing.change(0, 0);
     refused_length(&rt, &writing, 18, "before a kind out of order");
-    refused_length(&rt, &full(), 785, "a byte more than 196 words");
-    refused_length(&rt, &full(), 788, "197 words");
+    let mut long = full(&rt)?;
+    long.put(0)?;
+    long.put(0)?;
+    refused_length(&rt, &long, 785, "a byte more than 196 words");
+    refused_length(&rt, &long, 788, "197 words");
+    Ok(())
 }
 
 #[test]
-fn kinds_out_of_order(rt: HostRuntime) {
-    let mut writing = Writing::new();
-    writing.entry(6, 1, 0, 0);
-    writing.entry(4, 0, 0, 0);
-    writing.end();
+fn kinds_out_of_order(rt: HostRuntime) -> Result<(), Fail> {
+    let mut writing = Writing::new(rt.alloc())?;
+    writing.entry(6, 1, 0, 0)?;
+    writing.entry(4, 0, 0, 0)?;
+    writing.end()?;
     refused(&rt, &writing, 14, 5, "a row after a member");
     writing.change(4, 0x6000_0000);
     refused(&rt, &writing, 14, 4, "no kind 5");
@@ -89,25 +100,27 @@ fn kinds_out_of_order(rt: HostRuntime) {
     refused(&rt, &writing, 14, 1, "the second word");
     writing.change(0, 0x2000_0000);
     refused(&rt, &writing, 14, 0, "the first possible word");
+    Ok(())
 }
 
 #[test]
-fn ends_out_of_order(rt: HostRuntime) {
-    let mut writing = full();
+fn ends_out_of_order(rt: HostRuntime) -> Result<(), Fail> {
+    let mut writing = full(&rt)?;
     refused(&rt, &writing, 14, 195, "no end");
-    writing.put(0x9000_0000);
+    writing.put(0x9000_0000)?;
     refused(&rt, &writing, 14, 195, "the last possible word");
     writing.change(193, 0x8000_00C1);
     refused(&rt, &writing, 14, 194, "words after the end");
-    let mut cut = Writing::new();
-    cut.put(0x4000_0000);
+    let mut cut = Writing::new(rt.alloc())?;
+    cut.put(0x4000_0000)?;
     refused(&rt, &cut, 14, 4, "half an entry");
+    Ok(())
 }
 
 #[test]
-fn fields_out_of_range(rt: HostRuntime) {
-    let mut writing = full();
-    writing.put(0x8000_00C2);
+fn fields_out_of_range(rt: HostRuntime) -> Result<(), Fail> {
+    let mut writing = full(&rt)?;
+    writing.put(0x8000_00C2)?;
     refused(
         &rt,
         &writing,
@@ -129,28 +142,30 @@ fn fields_out_of_range(rt: HostRuntime) {
     refused(&rt, &writing, 15, 3, "no address");
     writing.change(2, 0x3000_00A0);
     refused(&rt, &writing, 15, 2, "the first possible word");
+    Ok(())
 }
 
 #[test]
-fn not_rising(rt: HostRuntime) {
-    let mut twice = Writing::new();
-    twice.entry(4, 0, 0, 0);
-    twice.entry(4, 0, 0, 1);
-    twice.end();
+fn not_rising(rt: HostRuntime) -> Result<(), Fail> {
+    let mut twice = Writing::new(rt.alloc())?;
+    twice.entry(4, 0, 0, 0)?;
+    twice.entry(4, 0, 0, 1)?;
+    twice.end()?;
     refused(&rt, &twice, 16, 6, "the first possible word");
     twice.change(6, 0x5000_0002);
     refused(&rt, &twice, 15, 6, "a range before the order");
-    let mut falling = Writing::new();
-    falling.entry(6, 1, 1, 0);
-    falling.entry(6, 2, 0, 0);
-    falling.end();
+    let mut falling = Writing::new(rt.alloc())?;
+    falling.entry(6, 1, 1, 0)?;
+    falling.entry(6, 2, 0, 0)?;
+    falling.end()?;
     refused(&rt, &falling, 16, 6, "members rise by ID alone");
+    Ok(())
 }
 
 #[test]
-fn one_too_many(rt: HostRuntime) {
-    let mut writing = full();
-    writing.put(0x7FE0_0000);
+fn one_too_many(rt: HostRuntime) -> Result<(), Fail> {
+    let mut writing = full(&rt)?;
+    writing.put(0x7FE0_0000)?;
     refused(
         &rt,
         &writing,
@@ -166,19 +181,20 @@ fn one_too_many(rt: HostRuntime) {
     refused(&rt, &writing, 16, 131, "a 65th row");
     writing.change(45, 0x4000_0000);
     refused(&rt, &writing, 16, 45, "a 22nd row at its address");
-    let mut members = Writing::new();
-    members.entries(6, 1, 17);
+    let mut members = Writing::new(rt.alloc())?;
+    members.entries(6, 1, 17)?;
     refused(&rt, &members, 16, 35, "a 17th member");
+    Ok(())
 }
 
 #[test]
-fn collisions(rt: HostRuntime) {
-    let mut writing = Writing::new();
-    writing.entry(4, 0, 0, 1);
-    writing.entry(4, 0, 1, 1);
-    writing.entry(6, 1, 0, 0);
-    writing.entry(6, 1, 1, 0);
-    writing.end();
+fn collisions(rt: HostRuntime) -> Result<(), Fail> {
+    let mut writing = Writing::new(rt.alloc())?;
+    writing.entry(4, 0, 0, 1)?;
+    writing.entry(4, 0, 1, 1)?;
+    writing.entry(6, 1, 0, 0)?;
+    writing.entry(6, 1, 1, 0)?;
+    writing.end()?;
     refused(&rt, &writing, 17, 5, "the first possible word");
     writing.change(11, 0x8000_0000);
     refused(&rt, &writing, 15, 11, "after all other faults");
@@ -191,42 +207,44 @@ fn collisions(rt: HostRuntime) {
     writing.change(5, 0x4000_0000);
     writing.change(6, 0x5000_4000);
     accepted(&rt, &writing, "one is off");
+    Ok(())
 }
 
 #[test]
-fn the_last_collision(rt: HostRuntime) {
-    let mut writing = Writing::new();
-    writing.entries(4, 0, 21);
-    writing.entries(4, 1, 21);
-    writing.entries(4, 2, 20);
-    writing.entry(4, 3, 0, 1);
-    writing.entry(4, 3, 1, 1);
-    writing.entry(6, 1, 0, 0);
-    writing.entry(6, 1, 1, 0);
-    writing.end();
+fn the_last_collision(rt: HostRuntime) -> Result<(), Fail> {
+    let mut writing = Writing::new(rt.alloc())?;
+    writing.entries(4, 0, 21)?;
+    writing.entries(4, 1, 21)?;
+    writing.entries(4, 2, 20)?;
+    writing.entry(4, 3, 0, 1)?;
+    writing.entry(4, 3, 1, 1)?;
+    writing.entry(6, 1, 0, 0)?;
+    writing.entry(6, 1, 1, 0)?;
+    writing.end()?;
     refused(&rt, &writing, 17, 129, "the last possible word");
+    Ok(())
 }
 
 // Three rows of one set at Channel 1, the second on, and a row at the Group that is held on.
-fn organ() -> Writing {
-    let mut writing = Writing::new();
-    writing.entry(4, 0, 2, 0);
-    writing.entry(4, 0, 3, 1);
-    writing.entry(4, 0, 4, 0);
-    writing.entry(4, 0x7E, 5, 1);
-    writing.entry(6, 1, 2, 0);
-    writing.entry(6, 1, 3, 0);
-    writing.entry(6, 1, 4, 0);
-    writing.entry(7, 0x7E, 5, 0);
-    writing.end();
-    writing
+fn organ(rt: &impl AllocGlobal) -> Result<Writing, AllocError> {
+    let mut writing = Writing::new(rt.alloc())?;
+    writing.entry(4, 0, 2, 0)?;
+    writing.entry(4, 0, 3, 1)?;
+    writing.entry(4, 0, 4, 0)?;
+    writing.entry(4, 0x7E, 5, 1)?;
+    writing.entry(6, 1, 2, 0)?;
+    writing.entry(6, 1, 3, 0)?;
+    writing.entry(6, 1, 4, 0)?;
+    writing.entry(7, 0x7E, 5, 0)?;
+    writing.end()?;
+    Ok(writing)
 }
 
 #[test]
-fn an_organ(rt: HostRuntime) {
-    let Ok(sheet) = organ().read() else {
+fn an_organ(rt: HostRuntime) -> Result<(), Fail> {
+    let Ok(sheet) = organ(&rt)?.read() else {
         assert!(rt; false, "refused");
-        return;
+        return Ok(());
     };
     assert_eq!(rt; sheet.identity.bytes, [0x7D, 0, 0, 0, 2, 2, 0, 0, 0, 0, 1]);
     assert_eq!(rt; sheet.identity.block, 1);
@@ -241,29 +259,31 @@ fn an_organ(rt: HostRuntime) {
     assert!(rt; !pile.switch(0, [0, 0, 0, 0, 3], false), "off by now");
     assert!(rt; !pile.switch(0x7E, [0, 0, 0, 0, 5], false), "held");
     assert!(rt; pile.plug(1, [0, 0, 0, 0, 2]));
+    Ok(())
 }
 
 #[test]
-fn a_piano(rt: HostRuntime) {
-    let mut writing = Writing::new();
+fn a_piano(rt: HostRuntime) -> Result<(), Fail> {
+    let mut writing = Writing::new(rt.alloc())?;
     writing.change(1, 0x2020_4000);
     writing.change(2, 0x3000_0080);
-    writing.put(0x401F_8000);
-    writing.put(0x5020_4001);
-    writing.put(0x4FFF_8001);
-    writing.put(0x5020_4000);
-    writing.put(0x701F_8000);
-    writing.put(0x5020_4000);
-    writing.put(0x7FFF_8001);
-    writing.put(0x5020_4000);
-    writing.put(0x8000_000B);
+    writing.put(0x401F_8000)?;
+    writing.put(0x5020_4001)?;
+    writing.put(0x4FFF_8001)?;
+    writing.put(0x5020_4000)?;
+    writing.put(0x701F_8000)?;
+    writing.put(0x5020_4000)?;
+    writing.put(0x7FFF_8001)?;
+    writing.put(0x5020_4000)?;
+    writing.put(0x8000_000B)?;
     let Ok(sheet) = writing.read() else {
         assert!(rt; false, "refused");
-        return;
+        return Ok(());
     };
     let mut pile = sheet.into_pile();
     assert!(rt; !pile.switch(0, [0x7E, 0, 0, 1, 1], false), "held on");
     assert!(rt; !pile.switch(0x7F, [0x7E, 0, 1, 1, 1], true), "held off");
+    Ok(())
 }
 
 // The sentence of a refusal.

@@ -1,81 +1,64 @@
 //! Sheets in the making, right or wrong.
 use sheet::{Sheet, SheetRefusal, read_sheet};
+use std::alloc::{AllocError, Global};
 
-/// Up to 200 words, of which the first `count` are in use. What does not fit is left out.
+/// The words of a sheet, each as four bytes, the highest first.
 #[derive(Drop)]
 pub struct Writing {
-    words: [u32; 200],
-    count: usize,
-}
-
-// The words as bytes, the highest first.
-fn bytes_of(words: &[u32; 200]) -> [u8; 800] {
-    let mut bytes = [0; 800];
-    for k in 0..200 {
-        let word = words[k];
-        bytes[4 * k] = (word / 0x100_0000) as u8;
-        bytes[4 * k + 1] = (word / 0x1_0000 % 0x100) as u8;
-        bytes[4 * k + 2] = (word / 0x100 % 0x100) as u8;
-        bytes[4 * k + 3] = (word % 0x100) as u8;
-    }
-    bytes
+    bytes: Vec<u8>,
 }
 
 impl Writing {
     /// The first three words: an identity, and Function Block 1.
-    pub fn new() -> Writing {
+    pub fn new(alloc: Global) -> Result<Writing, AllocError> {
         let mut writing = Writing {
-            words: [0; 200],
-            count: 0,
+            bytes: Vec::new(alloc),
         };
-        writing.put(0x1FA0_0000);
-        writing.put(0x2040_8000);
-        writing.put(0x3000_0081);
-        writing
+        writing.put(0x1FA0_0000)?;
+        writing.put(0x2040_8000)?;
+        writing.put(0x3000_0081)?;
+        Ok(writing)
     }
 
     /// One more word.
-    pub fn put(&mut self, word: u32) {
-        if self.count < 200 {
-            self.words[self.count] = word;
-            self.count += 1;
-        }
+    pub fn put(&mut self, word: u32) -> Result<(), AllocError> {
+        self.bytes.extend_from_slice(&word.to_be_bytes())
     }
 
     /// Another word in place of one.
     pub fn change(&mut self, at: usize, word: u32) {
-        if at < 200 {
-            self.words[at] = word;
+        if let Some(place) = self.bytes.chunks_exact_mut(4).nth(at) {
+            place.copy_from_slice(&word.to_be_bytes());
         }
     }
 
     /// An entry of two words: its kind, an address or set, an ID that ends with a number, and its state.
-    pub fn entry(&mut self, kind: u8, head: u8, number: u8, state: u8) {
-        self.put(u32::from(kind % 16) * 0x1000_0000 + u32::from(head % 128) * 0x20_0000);
-        self.put(0x5000_0000 + u32::from(number % 128) * 0x4000 + u32::from(state % 128));
+    pub fn entry(&mut self, kind: u8, head: u8, number: u8, state: u8) -> Result<(), AllocError> {
+        self.put(u32::from(kind % 16) * 0x1000_0000 + u32::from(head % 128) * 0x20_0000)?;
+        self.put(0x5000_0000 + u32::from(number % 128) * 0x4000 + u32::from(state % 128))
     }
 
     /// So many entries of a kind, with IDs that rise, at an address or in a set.
-    pub fn entries(&mut self, kind: u8, head: u8, count: u8) {
+    pub fn entries(&mut self, kind: u8, head: u8, count: u8) -> Result<(), AllocError> {
         for number in 0..count {
-            self.entry(kind, head, number, 0);
+            self.entry(kind, head, number, 0)?;
         }
+        Ok(())
     }
 
     /// The end, with the number of words before it.
-    pub fn end(&mut self) {
-        let before = self.count % 0x1000;
-        self.put(0x8000_0000 + before as u32);
+    pub fn end(&mut self) -> Result<(), AllocError> {
+        let before = self.bytes.len() / 4 % 0x1000;
+        self.put(0x8000_0000 + before as u32)
     }
 
     /// What reading answers to the first so many bytes.
     pub fn read_bytes(&self, length: usize) -> Result<Sheet, SheetRefusal> {
-        let bytes = bytes_of(&self.words);
-        read_sheet(&bytes[0..length.min(800)])
+        read_sheet(&self.bytes[..length.min(self.bytes.len())])
     }
 
     /// What reading answers to the words.
     pub fn read(&self) -> Result<Sheet, SheetRefusal> {
-        self.read_bytes(self.count.min(200) * 4)
+        read_sheet(&self.bytes)
     }
 }

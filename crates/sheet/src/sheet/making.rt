@@ -1,10 +1,5 @@
 //! Makes the lists of a sheet from those of a draft without fault, which no making refuses.
-ghost use Rattle.std.specs.Prelude.{◌≡◌, ◌≤◌, true, length};
-ghost use Rattle.rising.specs.Lists.{Rising};
-ghost use Rattle.host.specs.Rows.{Sound};
-ghost use Rattle.host.specs.Tables.{listed};
-ghost use Rattle.layers.specs.Lists.{every, member_key, member_ranged, pair_key, pair_ranged};
-ghost use Rattle.layers.specs.Models.{members_of, pairs_of};
+ghost use Rattle.std.specs.Prelude.{◌≡◌};
 ghost use Rattle.sheet.specs.Drafts.{contents};
 ghost use Rattle.sheet.specs.Told.{holds};
 ghost use Rattle.sheet.specs.Valid.{Valid};
@@ -12,42 +7,7 @@ ghost use Rattle.sheet.specs.Valid.{Valid};
 use super::Sheet;
 use crate::draft::Draft;
 use host::Table;
-use layers::{Member, Members, Pair, Pairs};
-use message::Row;
-
-fn table_of(rows: &[Row]) -> Table
-    requires { Sound rows.now }
-    ensures { listed result.rows ≡ rows.now }
-{
-    match Table::from_rows(rows) {
-        Ok(table) => table,
-        Err(_) => unreachable(),
-    }
-}
-
-fn members_of(members: &[Member]) -> Members
-    requires fit { every member_ranged members.now ≡ true }
-    requires few { length members.now ≤ 16 }
-    requires up { Rising member_key members.now }
-    ensures { members_of result ≡ members.now }
-{
-    match Members::from_slice(members) {
-        Ok(list) => list,
-        Err(_) => unreachable(),
-    }
-}
-
-fn pairs_of(pairs: &[Pair]) -> Pairs
-    requires fit { every pair_ranged pairs.now ≡ true }
-    requires few { length pairs.now ≤ 16 }
-    requires up { Rising pair_key pairs.now }
-    ensures { pairs_of result ≡ pairs.now }
-{
-    match Pairs::from_slice(pairs) {
-        Ok(list) => list,
-        Err(_) => unreachable(),
-    }
-}
+use layers::{Members, Pairs};
 
 /// The sheet that a draft has become.
 pub(crate) fn make(draft: &Draft) -> Sheet
@@ -56,8 +16,8 @@ pub(crate) fn make(draft: &Draft) -> Sheet
 {
     Sheet {
         identity: draft.identity,
-        table: table_of(draft.rows.listed()),
-        members: members_of(draft.members.listed()),
-        pairs: pairs_of(draft.pairs.listed()),
+        table: Table::from_rows(draft.rows.as_slice()).unwrap(),
+        members: Members::from_slice(draft.members.as_slice()).unwrap(),
+        pairs: Pairs::from_slice(draft.pairs.as_slice()).unwrap(),
     }
 }

@@ -1,14 +1,15 @@
-use Rattle.std.proofs.Common.{◌≡◌, ◌-◌, ◌≤◌, drop}
+use Rattle.std.proofs.Common.{◌≡◌, ◌+◌, ◌*◌, ◌≤◌, length}
 use Rattle.sheet.specs.Words.{words}
+use Rattle.sheet.specs.Entries.{code}
 use Rattle.sheet.specs.Drafts.{contents}
 use Rattle.sheet.specs.Reading.{body}
 use Rattle.sheet.proofs.body.body.Given as goal
 
--- what is still to come reads as the whole does
-abbrev pub invariant-loop-n : goal.invariant-loop-n
-invariant-loop-n l =
-    (body l.n l.last (contents l.draft) (drop l.n (words l.bytes)) ≡ body 3 4 (contents l.initial.draft) (drop 3 (words l.bytes)))
-    × (l.n ≤ l.total)
+-- what is left reads as the whole does
+abbrev pub invariant-loop-word : goal.invariant-loop-word
+invariant-loop-word l =
+    (body l.n (code l.last) (contents l.draft) (words l.left) ≡ body 3 4 (contents l.initial.draft) (words l.bytes))
+    × (4 * l.n + length l.left ≤ length l.bytes + 12)
 
-abbrev pub decreases-loop-n : goal.decreases-loop-n
-decreases-loop-n l = l.total - l.n
+abbrev pub decreases-loop-word : goal.decreases-loop-word
+decreases-loop-word l = length l.left

@@ -1,18 +1,21 @@
-use Rattle.std.proofs.Common.{[], sym, ◌∙◌, arith}
-use Rattle.std.proofs.lemmas.List.{at_drop_all, at_drop_more}
-use Rattle.std.proofs.lemmas.Bool.{cond-true, cond-false}
+use Rattle.std.proofs.Common.{◌≡◌, sym, ap, ◌∙◌, rules, tests}
+use Rattle.std.specs.Str.{bytes_eq}
+use Rattle.std.proofs.lemmas.Iterator.{YieldsList-from_slice}
+use Rattle.std.proofs.lemmas.Iterator.Search.{find_from_yields_List}
+use Rattle.layers.specs.declared.member.Member.{Member}
 use Rattle.layers.specs.Sets.{set_of}
+use Rattle.sheet.proofs.Plain.{set_in, set_found, set_told}
 use Rattle.sheet.proofs.collisions.set_of.Goals as goal
 
-pub returns-then-same_id : goal.returns-then-same_id
-returns-then-same_id c =
-    let e = at_drop_more (λ z. set_of z c.args.id) c.args.members.now c.loop-member.member-index (record { id = []; set = 0 }) (omega arith) in
-    sym (sym c.loop-member.invariant ∙ e ∙ cond-true _ _ _ (sym c.if-same_id.ensures))
-
-pub loop-member-preserved : goal.loop-member-preserved
-loop-member-preserved c =
-    let e = at_drop_more (λ z. set_of z c.args.id) c.args.members.now c.loop-member.member-index (record { id = []; set = 0 }) (omega arith) in
-    sym (e ∙ cond-false _ _ _ (sym c.if-same_id.ensures)) ∙ c.loop-member.invariant
+pub returns-in_err-member : goal.returns-in_err-member
+returns-in_err-member c =
+    let e = find_from_yields_List (λ (m : Member). bytes_eq c.args.id m.id) _ _ c.find.result c.find.ensures.ran (YieldsList-from_slice c.args.members.now cc) (λ x b q k. search (rules, tests)) in
+    let w = c.in_err-member.was in
+    rw (c.from_residual.ensures) (set_found c.args.members.now c.args.id ∙ ap set_in (sym e) ∙ rw w)
 
 pub returns : goal.returns
-returns c = sym (sym c.loop-member.invariant ∙ at_drop_all (λ z. set_of z c.args.id) c.args.members.now c.loop-member.member-index (omega arith))
+returns c =
+    let e = find_from_yields_List (λ (m : Member). bytes_eq c.args.id m.id) _ _ c.find.result c.find.ensures.ran (YieldsList-from_slice c.args.members.now cc) (λ x b q k. search (rules, tests)) in
+    let w = c.in_ok-member.was in
+    let z : set_of c.args.members.now c.args.id ≡ c.in_ok-member.member.now.set = set_found c.args.members.now c.args.id ∙ ap set_in (sym e) ∙ rw w in
+    rw (c.then_some.ensures) (set_told _ _ z)

@@ -1,17 +1,11 @@
-use Rattle.std.proofs.Common.{arith}
-use Rattle.std.proofs.lemmas.List.{at_drop_all}
-use Rattle.std.proofs.lemmas.Bool.Decides.{nat_tests}
-use Rattle.host.specs.Rows.{tally}
-use Rattle.sheet.proofs.Plain.{tally_more}
+use Rattle.std.proofs.Common.{eqb, ◌∙◌, rules, tests}
+use Rattle.std.proofs.lemmas.Iterator.{YieldsList-from_slice}
+use Rattle.std.proofs.lemmas.Iterator.Consumers.{YieldsList-from_filter, count_from_yields_List}
+use Rattle.message.specs.declared.row.Row.{Row}
+use Rattle.sheet.proofs.Plain.{tally_filter}
 use Rattle.sheet.proofs.draft.tally.Goals as goal
-use Rattle.sheet.proofs.draft.tally.Goals.{then-address-row, else-address-row}
-
-pub loop-row-preserved : goal.loop-row-preserved
-loop-row-preserved c =
-    let e = tally_more c.args.address c.args.rows.now c.loop-row.row-index (omega arith) in
-    elim c.if-address-row.branch [ then-address-row w ↦ grind (arith, nat_tests) | else-address-row w ↦ grind (arith, nat_tests) ]
 
 pub returns : goal.returns
 returns c =
-    let e = at_drop_all (tally c.args.address) c.args.rows.now c.loop-row.row-index (omega arith) in
-    omega (arith, e)
+    count_from_yields_List _ c.count.result c.count.ensures.ran (YieldsList-from_filter _ (λ (r : Row). eqb c.args.address r.address) (YieldsList-from_slice c.args.rows.now cc) c.filter.ensures.closure (λ x b q k. search (rules, tests)))
+    ∙ tally_filter c.args.address c.args.rows.now
