@@ -191,20 +191,20 @@ moves o rest y fine r =
     (goes_on (call (state_of o rest) y) _ o rest fine r (skips (state_of o rest).held y (state_of o rest).buffer high r) (λ stream. refl))
     ]
 
-moves-of : (s : State) (y : ℕ) (h : Sound s) → Moves (call s y) (λ stream. means h.open_now (cond (leb 0xF8 y) stream (y ∷ stream)))
-moves-of s y h =
+moves_of : (s : State) (y : ℕ) (h : Sound s) → Moves (call s y) (λ stream. means h.open_now (cond (leb 0xF8 y) stream (y ∷ stream)))
+moves_of s y h =
     subst (λ (t : State). Moves (call t y) (λ stream. means h.open_now (cond (leb 0xF8 y) stream (y ∷ stream)))) (sym h.is)
     (moves h.open_now h.rest y h.fine h.long)
 
-ended-stream : (o : Option (List ℕ)) → [] ≡ means o []
-ended-stream None = refl
-ended-stream (Some xs) = refl
+ended_stream : (o : Option (List ℕ)) → [] ≡ means o []
+ended_stream None = refl
+ended_stream (Some xs) = refl
 
 meaning : (stream : List ℕ) (s : State) (h : Sound s) → heard s stream ≡ means h.open_now (without_real_time stream)
-meaning [] s h = ended-stream h.open_now
+meaning [] s h = ended_stream h.open_now
 meaning (y ∷ stream) s h =
     let f = call s y in
-    let m = moves-of s y h in
+    let m = moves_of s y h in
     ap (λ (ms : List (List ℕ)). told f.answer f.buffer ++ ms) (meaning stream (left f) m.leaves)
     ∙ sym (m.adds_up (without_real_time stream))
 
@@ -223,8 +223,8 @@ opening_forgets s stream r =
 
 sound-after : (stream : List ℕ) (s : State) → Sound s → Sound (after s stream)
 sound-after [] s h = h
-sound-after (y ∷ stream) s h = sound-after stream (left (call s y)) (moves-of s y h).leaves
+sound-after (y ∷ stream) s h = sound-after stream (left (call s y)) (moves_of s y h).leaves
 
 pub tells-whole : TellsWholeMessages 2
 tells-whole buffer stream y n r e =
-    (moves-of (after (new_with buffer) stream) y (sound-after stream (new_with buffer) (new_sound buffer r))).tells n e
+    (moves_of (after (new_with buffer) stream) y (sound-after stream (new_with buffer) (new_sound buffer r))).tells n e
