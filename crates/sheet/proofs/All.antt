@@ -1,20 +1,21 @@
 -- Every layout of valid contents is accepted.
 use Rattle.std.proofs.Common.{◌≡◌, ℕ, ◌+◌, ◌*◌, ◌<◌, ◌≤◌, Bool, true, false, cond, eqb, leb, List, [], ◌∷◌, ◌++◌, length, get_or, None, sym, refl, ap, ◌∙◌, append_assoc, append-nil, arith, length-append}
+use Rattle.std.specs.List.{list_all}
 use Rattle.std.proofs.lemmas.Bool.{and_parts, and_from, lt-ltb, le-leb, eqb-true, eq-eqb}
 use Rattle.std.proofs.lemmas.Bool.Decides.{nat_tests}
 use Rattle.rising.specs.Lists.{Rising}
 use Rattle.message.specs.declared.row.Row.{Row}
 use Rattle.layers.specs.declared.member.Member.{Member}
-use Rattle.layers.specs.declared.pair.Pair.{Pair}
+use Rattle.message.specs.declared.pair.Pair.{Pair}
 use Rattle.sheet.specs.Words.{kind, first, third, fourth, amount, word}
 use Rattle.message.specs.Bytes.{is_address}
-use Rattle.message.specs.Rows.{row_key, all_ranged}
+use Rattle.message.specs.Rows.{row_key, all_ranged, pair_key, pair_ranged}
 use Rattle.host.specs.Rows.{tally}
-use Rattle.layers.specs.Lists.{member_key, pair_key}
+use Rattle.layers.specs.Lists.{member_key}
 use Rattle.sheet.specs.Contents.{Contents, is_set, after}
 use Rattle.sheet.specs.Layout.{laid, row_words, member_words, pair_words}
 use Rattle.message.specs.Bytes.{is_id}
-use Rattle.layers.specs.Lists.{every, member_ranged, pair_ranged}
+use Rattle.layers.specs.Lists.{member_ranged}
 use Rattle.sheet.proofs.Orderly.{row_ranged}
 use Rattle.sheet.specs.Reading.{Outcome, accepted, fault, follows, fits, room, opening, id_of, row_of, member_of, pair_of, fits_end, rises, ending, with_row, with_member, with_pair, entered, body}
 use Rattle.sheet.proofs.Turns.{at_last, at_two}
@@ -155,13 +156,13 @@ module _ (ids : List ℕ) (b : ℕ) (rest : List ℕ) (x : Outcome) where
       ∙ row_step n (made ids b seen [] []) r (laid row_words rs ++ rest) gs.0 (shorter seen r rs 64 l) (tallied seen r rs t) (after_rising row_key seen r rs u)
       ∙ ih
 
-  pub members_read : (rows : List Row) (rs seen : List Member) (n last : ℕ) → last ≤ 6 → every member_ranged rs ≡ true → Rising member_key (seen ++ rs) → length (seen ++ rs) ≤ 16
+  pub members_read : (rows : List Row) (rs seen : List Member) (n last : ℕ) → last ≤ 6 → list_all member_ranged rs ≡ true → Rising member_key (seen ++ rs) → length (seen ++ rs) ≤ 16
       → ((k : ℕ) → k ≤ 6 → body (n + 2 * length rs) k (made ids b rows (seen ++ rs) []) rest ≡ x) → body n last (made ids b rows seen []) (laid member_words rs ++ rest) ≡ x
   members_read rows [] seen n last le g u l h =
       let e : n + 2 * 0 ≡ n = omega arith in
       ap (λ (k : ℕ). body k last (made ids b rows seen []) rest) (sym e) ∙ ap (λ (s : List Member). body (n + 2 * 0) last (made ids b rows s []) rest) (sym (append-nil seen)) ∙ h last le
   members_read rows (r ∷ rs) seen n last le g u l h =
-      let gs = and_parts (member_ranged r) (every member_ranged rs) g in
+      let gs = and_parts (member_ranged r) (list_all member_ranged rs) g in
       let a : (seen ++ r ∷ []) ++ rs ≡ seen ++ r ∷ rs = append_assoc seen (r ∷ []) rs in
       let m : n + 2 + 2 * length rs ≡ n + 2 * length (r ∷ rs) = omega arith in
       let ih = members_read rows rs (seen ++ r ∷ []) (n + 2) 6 (omega arith) gs.1 (rw a u) (rw a l) (λ k q. rw (a, m) (h k q)) in
@@ -169,13 +170,13 @@ module _ (ids : List ℕ) (b : ℕ) (rest : List ℕ) (x : Outcome) where
       ∙ member_step n last (made ids b rows seen []) r (laid member_words rs ++ rest) le gs.0 (shorter seen r rs 16 l) (after_rising member_key seen r rs u)
       ∙ ih
 
-  pub pairs_read : (rows : List Row) (ms : List Member) (rs seen : List Pair) (n last : ℕ) → last ≤ 7 → every pair_ranged rs ≡ true → Rising pair_key (seen ++ rs) → length (seen ++ rs) ≤ 16
+  pub pairs_read : (rows : List Row) (ms : List Member) (rs seen : List Pair) (n last : ℕ) → last ≤ 7 → list_all pair_ranged rs ≡ true → Rising pair_key (seen ++ rs) → length (seen ++ rs) ≤ 16
       → ((k : ℕ) → k ≤ 7 → body (n + 2 * length rs) k (made ids b rows ms (seen ++ rs)) rest ≡ x) → body n last (made ids b rows ms seen) (laid pair_words rs ++ rest) ≡ x
   pairs_read rows ms [] seen n last le g u l h =
       let e : n + 2 * 0 ≡ n = omega arith in
       ap (λ (k : ℕ). body k last (made ids b rows ms seen) rest) (sym e) ∙ ap (λ (s : List Pair). body (n + 2 * 0) last (made ids b rows ms s) rest) (sym (append-nil seen)) ∙ h last le
   pairs_read rows ms (r ∷ rs) seen n last le g u l h =
-      let gs = and_parts (pair_ranged r) (every pair_ranged rs) g in
+      let gs = and_parts (pair_ranged r) (list_all pair_ranged rs) g in
       let a : (seen ++ r ∷ []) ++ rs ≡ seen ++ r ∷ rs = append_assoc seen (r ∷ []) rs in
       let m : n + 2 + 2 * length rs ≡ n + 2 * length (r ∷ rs) = omega arith in
       let ih = pairs_read rows ms rs (seen ++ r ∷ []) (n + 2) 7 (omega arith) gs.1 (rw a u) (rw a l) (λ k q. rw (a, m) (h k q)) in

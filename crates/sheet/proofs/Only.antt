@@ -1,5 +1,6 @@
 -- What is accepted is the layout of valid contents.
 use Rattle.std.proofs.Common.{◌≡◌, ℕ, ◌+◌, ◌*◌, ◌/◌, ◌%◌, ◌<◌, ◌≤◌, Bool, true, cond, ◌&&◌, ◌||◌, eqb, ltb, ◌⊎◌, List, [], ◌∷◌, ◌++◌, length, Some, None, Option, sym, refl, ap, ◌∙◌, subst, inl, inr, ⊎_elim, append_assoc, append-nil, arith, length-append}
+use Rattle.std.specs.List.{list_all}
 use Rattle.std.proofs.lemmas.Bool.{and_parts, and_from, lt-ltb, ltb-true, leb-true, eqb-true, eq-eqb, ne_eqb, cases_eq, cond-true, cond-false}
 use Rattle.std.proofs.lemmas.Bool.Decides.{nat_tests}
 use Rattle.std.proofs.lemmas.List.Recursion.{and_push}
@@ -9,13 +10,13 @@ use Rattle.message.specs.declared.refusal.Refusal.TheVariants.{SheetOrder}
 use Rattle.sheet.specs.Words.{kind, first, second, third, fourth, amount, word}
 use Rattle.message.specs.Bytes.{is_address}
 use Rattle.rising.specs.Order.{Key}
-use Rattle.message.specs.Rows.{row_key, all_ranged}
+use Rattle.message.specs.Rows.{row_key, all_ranged, pair_key, pair_ranged}
 use Rattle.host.specs.Rows.{tally, Sound}
-use Rattle.layers.specs.Lists.{member_key, pair_key}
+use Rattle.layers.specs.Lists.{member_key}
 use Rattle.sheet.specs.Contents.{Contents, is_set, after}
 use Rattle.sheet.specs.Layout.{two_words, laid, row_words, member_words, pair_words, head_words, so_far, layout}
 use Rattle.message.specs.Bytes.{is_id}
-use Rattle.layers.specs.Lists.{every, member_ranged, pair_ranged}
+use Rattle.layers.specs.Lists.{member_ranged}
 use Rattle.sheet.proofs.Orderly.{row_ranged, Fit, Orderly}
 use Rattle.sheet.specs.Reading.{accepted, refused, follows, fits, room, opening, id_of, row_of, member_of, pair_of, fits_end, rises, ending, with_row, with_member, with_pair, entered, judged, body}
 use Rattle.sheet.proofs.Turns.{fault-none, refused_here, at_last, at_two}
@@ -70,7 +71,7 @@ sound_push rows r s g u l t = record {
 
 fit_push : {X : Type 0} (in_range : X → Bool) (key : X → Key) (xs : List X) (x : X) → Fit in_range key xs → in_range x ≡ true → after key xs x ≡ true → length xs < 16 → Fit in_range key (xs ++ x ∷ [])
 fit_push in_range key xs x f g u l = record {
-  ranges = and_push (every in_range) in_range refl (λ _ _. refl) xs x ∙ and_from _ _ f.ranges g;
+  ranges = and_push (list_all in_range) in_range refl (λ _ _. refl) xs x ∙ and_from _ _ f.ranges g;
   order = rising_after key xs x f.order u;
   few = one_more xs x 16 l;
 }

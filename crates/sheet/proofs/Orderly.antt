@@ -1,13 +1,14 @@
 -- Ranges, limits and orders of contents, list by list; and rows of which no two collide, by their places.
 use Rattle.std.proofs.Common.{◌≡◌, ℕ, ◌<◌, ◌≤◌, Bool, true, false, List, length, get_or, take}
+use Rattle.std.specs.List.{list_all}
 use Rattle.rising.specs.Order.{Key}
 use Rattle.rising.specs.Lists.{Rising}
 use Rattle.message.specs.Bytes.{is_identity, is_block}
-use Rattle.message.specs.Rows.{ranged}
+use Rattle.message.specs.Rows.{ranged, pair_key, pair_ranged}
 use Rattle.message.specs.declared.row.Row.{Row}
 use Rattle.host.specs.Rows.{Sound}
 use Rattle.host.specs.Tables.{blank}
-use Rattle.layers.specs.Lists.{every, member_key, member_ranged, pair_key, pair_ranged}
+use Rattle.layers.specs.Lists.{member_key, member_ranged}
 use Rattle.layers.specs.declared.member.Member.{Member}
 use Rattle.sheet.specs.Contents.{Contents}
 use Rattle.sheet.specs.Collisions.{collide, hit}
@@ -25,7 +26,7 @@ Clear ms rows = (k : ℕ) → k < length rows → hit ms (get_or rows k blank) (
 
 -- entries in range, rising, and at most 16
 pub record Fit {X : Type 0} (in_range : X → Bool) (key : X → Key) (xs : List X) : Type 0 where
-  pub ranges : every in_range xs ≡ true
+  pub ranges : list_all in_range xs ≡ true
   pub order : Rising key xs
   pub few : length xs ≤ 16
 

@@ -3,7 +3,7 @@ use Rattle.std.specs.Prelude.{ℕ, Bool, true, ◌&&◌, List, [], ◌∷◌, na
 use Rattle.rising.specs.Order.{Key, before}
 use Rattle.message.specs.declared.row.Row.{Row}
 use Rattle.layers.specs.declared.member.Member.{Member}
-use Rattle.layers.specs.declared.pair.Pair.{Pair}
+use Rattle.message.specs.declared.pair.Pair.{Pair}
 
 -- eleven identity bytes, the Function Block, the rows, the members of sets and the pairs whose rows are held
 pub record Contents : Type 0 where

@@ -1,7 +1,7 @@
 -- Kinds of words by their numbers, and entries of two words.
 use Rattle.std.specs.Prelude.{◌≡◌, ℕ, Bool, cond, Some, None, Option, Ok, Err, Result, ◌&&◌, length, ◌==◌, nat_le, nat_lt}
-use Rattle.message.specs.Rows.{row_key}
-use Rattle.layers.specs.Lists.{member_key, pair_key}
+use Rattle.message.specs.Rows.{row_key, pair_key}
+use Rattle.layers.specs.Lists.{member_key}
 use Rattle.message.specs.declared.refusal.Refusal.{Refusal}
 use Rattle.sheet.specs.declared.refusal.SheetRefusal.{SheetRefusal}
 use Rattle.sheet.specs.declared.kind.Kind.{Kind}

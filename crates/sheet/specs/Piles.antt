@@ -6,7 +6,7 @@ use Rattle.host.specs.Hosts.{Consents}
 use Rattle.host.specs.Tables.{listed, freely}
 use Rattle.layers.specs.declared.holding.Holding.{Holding}
 use Rattle.layers.specs.declared.member.Member.{Member}
-use Rattle.layers.specs.declared.pair.Pair.{Pair}
+use Rattle.message.specs.declared.pair.Pair.{Pair}
 use Rattle.layers.specs.declared.sets.Sets.{Sets}
 use Rattle.layers.specs.Holding.{held}
 use Rattle.layers.specs.Models.{members_of, pairs_of}

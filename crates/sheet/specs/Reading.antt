@@ -4,13 +4,13 @@ use Rattle.message.specs.declared.row.Row.{Row}
 use Rattle.layers.specs.declared.member.Member.{Member}
 use Rattle.message.specs.declared.refusal.Refusal.{Refusal}
 use Rattle.message.specs.declared.refusal.Refusal.TheVariants.{SheetLength, SheetOrder, FieldOutOfRange, NotRising, SetCollision}
-use Rattle.layers.specs.declared.pair.Pair.{Pair}
+use Rattle.message.specs.declared.pair.Pair.{Pair}
 use Rattle.sheet.specs.Words.{kind, first, second, third, fourth, amount, words}
 use Rattle.sheet.specs.Collisions.{clash}
 use Rattle.message.specs.Bytes.{is_address, is_block}
-use Rattle.message.specs.Rows.{row_key}
+use Rattle.message.specs.Rows.{row_key, pair_key}
 use Rattle.host.specs.Rows.{tally}
-use Rattle.layers.specs.Lists.{member_key, pair_key}
+use Rattle.layers.specs.Lists.{member_key}
 use Rattle.sheet.specs.Contents.{Contents, is_set, after}
 
 pub data Outcome : Type 0 where

@@ -1,6 +1,5 @@
 //! A sheet as far as it is read, and what is wrong with its next word.
 ghost use Rattle.std.specs.Prelude.{◌≡◌, true, []};
-ghost use Rattle.host.specs.Rows.{tally};
 ghost use Rattle.sheet.specs.Contents.{after};
 ghost use Rattle.sheet.specs.Drafts.{contents};
 ghost use Rattle.sheet.specs.Entries.{code, entry_of, Judged, has_slot, comes_last, with_entry};
@@ -12,6 +11,7 @@ use crate::opening::Opening;
 use crate::refusal::SheetRefusal;
 use crate::slots::Slots;
 use crate::word::{first, fourth, third};
+use host::count_at;
 use layers::{Member, Pair};
 use message::{Identity, Refusal, Row};
 use rising::Keyed;
@@ -23,13 +23,6 @@ pub struct Draft {
     pub rows: Slots<Row, 64>,
     pub members: Slots<Member, 16>,
     pub pairs: Slots<Pair, 16>,
-}
-
-// How many rows stand at an address.
-fn tally(rows: &[Row], address: u8) -> usize
-    ensures { result ≡ tally address rows.now }
-{
-    rows.iter().filter(|row| address == row.address).count()
 }
 
 // Whether `x` comes after the last of the list.
@@ -58,16 +51,11 @@ impl Draft {
     pub(crate) fn new(identity: Identity) -> Draft
         ensures { (result.identity ≡ identity) × (result.rows ≡ []) × (result.members ≡ []) × (result.pairs ≡ []) }
     {
-        let (address, id) = (0, [0; 5]);
         Draft {
             identity,
-            rows: Slots::new(Row {
-                address,
-                id,
-                on: false,
-            }),
-            members: Slots::new(Member { id, set: 0 }),
-            pairs: Slots::new(Pair { address, id }),
+            rows: Slots::new(),
+            members: Slots::new(),
+            pairs: Slots::new(),
         }
     }
 
@@ -78,7 +66,7 @@ impl Draft {
         match opening.kind {
             Kind::End => true,
             Kind::Row => {
-                self.rows.has_room() && tally(self.rows.as_slice(), first(opening.word)) < 21
+                self.rows.has_room() && count_at(self.rows.as_slice(), first(opening.word)) < 21
             }
             Kind::Member => self.members.has_room(),
             _ => self.pairs.has_room(),

@@ -20,13 +20,13 @@ impl<T, const N: usize> Model for Slots<T, N> {
     ghost invariant = { λ s. (s.count ≤ N) × (length s.slots ≡ N) };
 }
 
-impl<T: Copy, const N: usize> Slots<T, N> {
+impl<T: Copy + Default, const N: usize> Slots<T, N> {
     // No entry yet: a blank lies in every slot.
-    pub(crate) fn new(blank: T) -> Slots<T, N>
+    pub(crate) fn new() -> Slots<T, N>
         ensures { result ≡ [] }
     {
         Slots {
-            slots: [blank; N],
+            slots: [T::default(); N],
             count: 0,
         }
     }
