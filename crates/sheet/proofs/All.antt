@@ -23,7 +23,7 @@ use Rattle.sheet.proofs.Only.{choose}
 use Rattle.sheet.proofs.Splits.{five_of, low-at}
 use Rattle.sheet.proofs.Parts.{fields, after_rising, tally_more_than}
 
-pub no_fault : (x y z : Bool) → x ≡ true → y ≡ true → z ≡ true → fault x y z ≡ None
+no_fault : (x y z : Bool) → x ≡ true → y ≡ true → z ≡ true → fault x y z ≡ None
 no_fault x y z p q r = rw (p, q, r)
 
 step : (n last : ℕ) (c : Contents) (w v : ℕ) (ws : List ℕ) → opening n last c w ≡ None → (kind w ≡ 8 → ⊥) → ending c w v ≡ None → body n last c (w ∷ v ∷ ws) ≡ body (n + 2) (kind w) (entered c w v) ws

@@ -40,7 +40,7 @@ module _ (ms : List Member) where
       omega (arith, e, ih))
       (cases_Bool (counts a g x))
 
-  pub one_from : (l : List Row) → Apart ms l → AtMostOne ms l
+  one_from : (l : List Row) → Apart ms l → AtMostOne ms l
   one_from [] h a g p = omega arith
   one_from (r ∷ l) h a g p =
       ⊎_elim

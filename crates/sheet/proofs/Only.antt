@@ -19,7 +19,7 @@ use Rattle.message.specs.Bytes.{is_id}
 use Rattle.layers.specs.Lists.{member_ranged}
 use Rattle.sheet.proofs.Orderly.{row_ranged, Fit, Orderly}
 use Rattle.sheet.specs.Reading.{accepted, refused, follows, fits, room, opening, id_of, row_of, member_of, pair_of, fits_end, rises, ending, with_row, with_member, with_pair, entered, judged, body}
-use Rattle.sheet.proofs.Turns.{fault-none, refused_here, at_last, at_two}
+use Rattle.sheet.proofs.Turns.{body-none, fault-none, refused_here, at_last, at_two}
 use Rattle.sheet.proofs.Parts.{from_parts, from_amount, laid_push, rising_after, tally_push}
 
 -- members and pairs come only after the rows, and pairs only after the members
@@ -175,10 +175,6 @@ same-contents c d h = cc
 abbrev Ends : Contents → List ℕ → Contents → Type 0
 Ends c ws d = (so_far c ++ ws ≡ layout d) × Orderly d
 
-body_empty : (n last : ℕ) (c : Contents) → body n last c [] ≡ refused SheetOrder n
-unfolding body
-body_empty n last c = refl
-
 closes : (n last : ℕ) (c d : Contents) (w : ℕ) → n ≡ length (so_far c) → Orderly c → opening n last c w ≡ None → kind w ≡ 8 → c ≡ d → Ends c (w ∷ []) d
 closes n last c d w e o h k s =
     let a = fault-none _ _ _ h in
@@ -219,7 +215,7 @@ two_more n last c d w v ws h =
     (option_cases (opening n last c w))
 
 pub body-only : (ws : List ℕ) (n last : ℕ) (c d : Contents) → n ≡ length (so_far c) → Orderly c → Placed last c → body n last c ws ≡ accepted d → Ends c ws d
-body-only [] n last c d e o p h = absurd (not_both SheetOrder n d (sym (body_empty n last c) ∙ h))
+body-only [] n last c d e o p h = absurd (not_both SheetOrder n d (sym (body-none n last c) ∙ h))
 body-only (w ∷ []) n last c d e o p h = last_word n last c d w e o h
 body-only (w ∷ v ∷ ws) n last c d e o p h =
     let t = two_more n last c d w v ws h in

@@ -39,7 +39,7 @@ module _ (ms : List Member) where
       let q = miss-at (get_or rs k blank) (take k rs) (pass-at n [] rs h k m) j (omega arith) in
       ap (collide ms (get_or rs k blank)) (sym (get_or-take k rs j blank l)) ∙ q
 
-  pub clear_from : (rs : List Row) → Apart ms rs → Clear ms rs
+  clear_from : (rs : List Row) → Apart ms rs → Clear ms rs
   clear_from rs h k l =
       or_from_places (hit ms (get_or rs k blank)) (collide ms (get_or rs k blank)) refl (λ _ _. refl) (take k rs) blank (λ j m.
       let s = length-take-le k rs (omega arith) in

@@ -1,12 +1,11 @@
 -- Facts on words and lists that the functions rest on.
-use Rattle.std.proofs.Common.{Ordering, Less, Equal, Greater, is_lt, ◌≡◌, ℕ, suc, ◌+◌, ◌-◌, ◌*◌, ◌%◌, ◌<◌, ◌≤◌, Bool, true, false, cond, eqb, ltb, List, [], ◌∷◌, ◌++◌, length, get_or, take, drop, Some, None, Option, sym, refl, ap, ◌∙◌, arith, drop-cons}
+use Rattle.std.proofs.Common.{Ordering, Less, Equal, Greater, is_lt, ◌≡◌, ℕ, suc, ◌+◌, ◌-◌, ◌%◌, ◌<◌, ◌≤◌, Bool, true, false, cond, eqb, ltb, List, [], ◌∷◌, length, get_or, take, drop, Some, None, Option, sym, refl, ap, ◌∙◌, arith}
 use Rattle.std.specs.Str.{bytes_eq}
 use Rattle.std.specs.List.{filter, find}
 use Rattle.std.specs.Bool.{then_some}
 use Rattle.std.specs.Option.{MatchOption}
 use Rattle.std.specs.Int.{w32, from_be_bytes}
 use Rattle.std.proofs.lemmas.Bool.Decides.{nat_tests}
-use Rattle.std.proofs.lemmas.List.{take_more, drop_all}
 use Rattle.std.specs.Ordering.{MatchOrdering}
 use Rattle.rising.specs.Order.{Key, before, Before}
 use Rattle.rising.proofs.Order.{not_before}
@@ -14,11 +13,9 @@ use Rattle.message.specs.declared.row.Row.{Row}
 use Rattle.sheet.specs.Words.{words}
 use Rattle.layers.specs.declared.member.Member.{Member}
 use Rattle.layers.specs.Sets.{set_of}
-use Rattle.sheet.specs.Collisions.{hit, clash}
 use Rattle.sheet.specs.Reading.{sized}
-use Rattle.std.proofs.lemmas.Bool.{ltb-true, cond-true, cond-false, and_from, le-leb, eq-eqb}
+use Rattle.std.proofs.lemmas.Bool.{ltb-true, and_from, le-leb, eq-eqb}
 use Rattle.host.specs.Rows.{tally}
-use Rattle.host.specs.Tables.{blank}
 use Rattle.sheet.specs.Contents.{after}
 
 pub tally_filter : (a : ℕ) (rows : List Row) → length (filter (λ (r : Row). eqb a r.address) rows) ≡ tally a rows
@@ -78,24 +75,6 @@ set_told n s e = told (ltb 0 s) (λ t. (e, ltb-true 0 s t)) (λ f. grind (arith,
     told : (b : Bool) → (b ≡ true → (n ≡ s) × (0 < s)) → (b ≡ false → n ≡ 0) → MatchOption (then_some b s) (n ≡ 0) (λ x. (n ≡ x) × (0 < x))
     told true p q = p refl
     told false p q = q refl
-
--- the pass over the rows, at the row k
-module _ (ms : List Member) (rows : List Row) (k : ℕ) where
-  clash-step : k < length rows → clash ms (3 + 2 * k) (take k rows) (drop k rows) ≡ cond (hit ms (get_or rows k blank) (take k rows)) (Some (3 + 2 * k)) (clash ms (3 + 2 * k + 2) (take k rows ++ get_or rows k blank ∷ []) (drop (suc k) rows))
-  clash-step l = ap (clash ms (3 + 2 * k) (take k rows)) (drop-cons rows k blank l)
-
-  pub clash_here : k < length rows → hit ms (get_or rows k blank) (take k rows) ≡ true → clash ms (3 + 2 * k) (take k rows) (drop k rows) ≡ Some (3 + 2 * k)
-  clash_here l h = clash-step l ∙ cond-true _ _ _ h
-
-  pub clash_past : k < length rows → hit ms (get_or rows k blank) (take k rows) ≡ false → clash ms (3 + 2 * k) (take k rows) (drop k rows) ≡ clash ms (3 + 2 * (k + 1)) (take (k + 1) rows) (drop (k + 1) rows)
-  clash_past l h =
-      let t : take k rows ++ get_or rows k blank ∷ [] ≡ take (k + 1) rows = sym (take_more rows k blank l) in
-      let s : suc k ≡ k + 1 = omega arith in
-      let n : 3 + 2 * k + 2 ≡ 3 + 2 * (k + 1) = omega arith in
-      clash-step l ∙ cond-false _ _ _ h ∙ rw (t, s, n)
-
-  pub clash_none : length rows ≤ k → clash ms (3 + 2 * k) (take k rows) (drop k rows) ≡ None
-  clash_none l = ap (clash ms (3 + 2 * k) (take k rows)) (drop_all k rows l)
 
 pub sized_true : (n : ℕ) → 16 ≤ n → n ≤ 784 → n % 4 ≡ 0 → sized n ≡ true
 sized_true n a b c = and_from _ _ (le-leb 16 n a) (and_from _ _ (le-leb n 784 b) (eq-eqb (n % 4) 0 c))
