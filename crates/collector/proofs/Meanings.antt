@@ -5,7 +5,8 @@ use Rattle.std.proofs.lemmas.Bool.{and_parts, le-leb, lt-leb, cases_lt, cases_eq
 use Rattle.std.proofs.lemmas.Bool.Decides.{nat_tests}
 use Rattle.message.specs.declared.refusal.Refusal.{Refusal}
 use Rattle.collector.specs.Step.{Fed, quiet, ended, feeds}
-use Rattle.collector.specs.Streams.{State, new_with, call, left, after, told, heard, data_bytes, framed, without_real_time, body, closes, begun_in}
+use Rattle.message.specs.Bytes.{sevens}
+use Rattle.collector.specs.Streams.{State, new_with, call, left, after, told, heard, framed, without_real_time, body, closes, begun_in}
 use Rattle.collector.specs.Laws.{TellsTheMessages, OpeningForgets, Tells, TellsWholeMessages}
 use Rattle.collector.proofs.Runs.{state_of, opens, joins_open, ends_open, same_length}
 
@@ -44,7 +45,7 @@ passes y ys p = grind (arith, nat_tests)
 -- what an open message may hold
 abbrev Fine : Option (List ℕ) → Type 0
 Fine None = Unit {0}
-Fine (Some xs) = (length xs ≤ 511) × (data_bytes xs ≡ true)
+Fine (Some xs) = (length xs ≤ 511) × (sevens xs ≡ true)
 
 abbrev pending : Option (List ℕ) → List ℕ → List (List ℕ)
 pending None stream = []
@@ -53,10 +54,10 @@ pending (Some xs) stream = becomes xs stream
 abbrev means : Option (List ℕ) → List ℕ → List (List ℕ)
 means o stream = pending o stream ++ begun_in stream
 
-data_push : (xs : List ℕ) (y : ℕ) → data_bytes xs ≡ true → y < 0x80 → data_bytes (xs ++ (y ∷ [])) ≡ true
+data_push : (xs : List ℕ) (y : ℕ) → sevens xs ≡ true → y < 0x80 → sevens (xs ++ (y ∷ [])) ≡ true
 data_push [] y p q = grind (arith, nat_tests)
 data_push (x ∷ xs) y p q =
-    let parts = and_parts (ltb x 0x80) (data_bytes xs) p in
+    let parts = and_parts (ltb x 0x80) (sevens xs) p in
     let k = data_push xs y parts.1 q in
     grind (arith, nat_tests)
 
@@ -97,7 +98,7 @@ goes_on f before o rest fine r e same =
       adds_up = λ stream. same stream ∙ ap (λ (x : Fed). told x.answer x.buffer ++ means o stream) (sym e);
     }
 
-ends : (f : Fed) (before : List ℕ → List (List ℕ)) (xs rest : List ℕ) → data_bytes xs ≡ true → length xs ≤ 510
+ends : (f : Fed) (before : List ℕ → List (List ℕ)) (xs rest : List ℕ) → sevens xs ≡ true → length xs ≤ 510
     → 512 ≤ length (framed xs ++ rest) → f ≡ ended (length (framed xs)) (framed xs ++ rest)
     → ((stream : List ℕ) → before stream ≡ framed xs ∷ begun_in stream) → Moves f before
 ends f before xs rest low few r e same =

@@ -5,7 +5,8 @@ use Rattle.std.proofs.lemmas.Bool.{and_parts, ltb-true}
 use Rattle.std.proofs.lemmas.Bool.Decides.{nat_tests}
 use Rattle.message.specs.declared.refusal.Refusal.{Refusal}
 use Rattle.collector.specs.Step.{Fed, quiet, ended, feeds}
-use Rattle.collector.specs.Streams.{State, left, after, answers, data_bytes, framed}
+use Rattle.message.specs.Bytes.{sevens}
+use Rattle.collector.specs.Streams.{State, left, after, answers, framed}
 use Rattle.collector.specs.Laws.{Whole, ComesOutWhole}
 
 pub opens : (h : Option ℕ) (b : List ℕ) → 512 ≤ length b → feeds h 0xF0 b ≡ quiet (Some 1) (set b 0 0xF0)
@@ -45,14 +46,14 @@ record Ends (xs rest body : List ℕ) : Type 0 where
   pub leaves : after (state_of (Some xs) rest) (body ++ (0xF7 ∷ [])) ≡ state_of None (framed (xs ++ body) ++ drop (length (body ++ (0xF7 ∷ []))) rest)
   pub tells : answers (state_of (Some xs) rest) (body ++ (0xF7 ∷ [])) ≡ replicate (length body) (Ok None) ++ (Ok (Some (length (framed (xs ++ body)))) ∷ [])
 
-comes_to_end : (body xs rest : List ℕ) → length xs + length body < 511 → 512 ≤ length ((0xF0 ∷ xs) ++ rest) → data_bytes body ≡ true
+comes_to_end : (body xs rest : List ℕ) → length xs + length body < 511 → 512 ≤ length ((0xF0 ∷ xs) ++ rest) → sevens body ≡ true
     → Ends xs rest body
 comes_to_end body xs [] p r s = let k = length-append xs [] in absurd (omega arith)
 comes_to_end [] xs (z ∷ rest) p r s =
     let e = ends_open xs rest z (omega arith) r ∙ ap (λ (bs : List ℕ). ended (length (framed bs)) (framed bs ++ rest)) (sym (append-nil xs)) in
     record { leaves = ap left e; tells = ap (λ (f : Fed). f.answer ∷ []) e }
 comes_to_end (y ∷ body) xs (z ∷ rest) p r s =
-    let parts = and_parts (ltb y 0x80) (data_bytes body) s in
+    let parts = and_parts (ltb y 0x80) (sevens body) s in
     let k = length_push xs y in
     let same = same_length (0xF0 ∷ xs) rest z y in
     let e = joins_open xs rest z y (omega arith) (ltb-true y 0x80 parts.0) r in
@@ -69,7 +70,7 @@ comes_to_end (y ∷ body) xs (z ∷ rest) p r s =
           ∙ ap (λ (bs : List ℕ). replicate (length (y ∷ body)) (Ok None) ++ (Ok (Some (length (framed bs))) ∷ [])) joined;
     }
 
-whole_in : (h : Option ℕ) (buffer body : List ℕ) → 512 ≤ length buffer → data_bytes body ≡ true → length body ≤ 510
+whole_in : (h : Option ℕ) (buffer body : List ℕ) → 512 ≤ length buffer → sevens body ≡ true → length body ≤ 510
     → Whole (record { held = h; buffer = buffer }) body
 whole_in h [] body r s few = absurd (omega arith)
 whole_in h (z ∷ rest) body r s few =

@@ -1,6 +1,7 @@
 -- What holds of every stream.
 use Rattle.std.specs.Prelude.{◌≡◌, ℕ, ◌≤◌, true, List, [], ◌∷◌, ◌++◌, length, take, drop, replicate, Some, None, Ok}
-use Rattle.collector.specs.Streams.{State, new_with, call, after, answers, heard, data_bytes, framed, messages}
+use Rattle.message.specs.Bytes.{sevens}
+use Rattle.collector.specs.Streams.{State, new_with, call, after, answers, heard, framed, messages}
 
 -- A message comes out whole: no message is open after it, it stands at the buffer's front, the rest of the buffer is as it was, and its
 -- length is told at its F7h and at no byte before.
@@ -11,13 +12,13 @@ pub record Whole (s : State) (body : List ℕ) : Type 0 where
 -- So does every message of at most that many bytes that nothing interrupts, whatever came before.
 abbrev pub ComesOutWhole : ℕ → Type 0
 ComesOutWhole longest =
-    (s : State) (body : List ℕ) → 512 ≤ length s.buffer → data_bytes body ≡ true → length (framed body) ≤ longest → Whole s body
+    (s : State) (body : List ℕ) → 512 ≤ length s.buffer → sevens body ≡ true → length (framed body) ≤ longest → Whole s body
 
 -- A message of n bytes: F0h, bytes below 80h, F7h.
 pub record Message (n : ℕ) (bytes : List ℕ) : Type 0 where
   pub body : List ℕ
   pub shape : bytes ≡ framed body
-  pub low : data_bytes body ≡ true
+  pub low : sevens body ≡ true
   pub long : length bytes ≡ n
 
 -- Whatever a new collector was fed, where it tells a length, as many bytes of the buffer's front are a message.

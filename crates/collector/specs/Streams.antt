@@ -39,11 +39,6 @@ abbrev pub heard : State → List ℕ → List (List ℕ)
 heard s [] = []
 heard s (byte ∷ stream) = told (call s byte).answer (call s byte).buffer ++ heard (left (call s byte)) stream
 
--- every byte is below 80h
-abbrev pub data_bytes : List ℕ → Bool
-data_bytes [] = true
-data_bytes (byte ∷ bytes) = nat_lt byte 0x80 && data_bytes bytes
-
 -- a message with these bytes between its F0h and its F7h
 abbrev pub framed : List ℕ → List ℕ
 framed body = 0xF0 ∷ (body ++ (0xF7 ∷ []))

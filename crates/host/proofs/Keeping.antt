@@ -1,12 +1,13 @@
 -- Rows that are switched, entered or removed stay a listing.
 use Rattle.std.proofs.Common.{◌≡◌, ℕ, zero, suc, ◌+◌, ◌<◌, ◌≤◌, Bool, true, false, cond, not, ◌&&◌, eqb, ltb, List, [], ◌∷◌, map, length, get_or, take, set, Some, Option, sym, refl, ap, ◌∙◌, subst, ⊎_elim, arith}
+use Rattle.std.specs.List.{filter}
 use Rattle.std.proofs.lemmas.List.{length-map, length-take, get_or-take}
 use Rattle.std.proofs.lemmas.Bool.{and_parts, and_from, eqb-true, ltb-true, both_ways, cases_Bool, cond_both, cond-false, cond_below}
 use Rattle.rising.specs.Order.{before, Before}
 use Rattle.rising.specs.Lists.{leads, rising, Rising, entered, entering}
 use Rattle.rising.proofs.Order.{before_irrefl}
 use Rattle.rising.proofs.Lists.{leads_at, rising_entered, rising_without}
-use Rattle.message.specs.Rows.{row_key, keep, ranged, all_ranged}
+use Rattle.message.specs.Rows.{row_key, ranged, all_ranged}
 use Rattle.message.specs.declared.row.Row.{Row}
 use Rattle.host.specs.Rows.{row, same, look, has, is_there, without_row, tally, Sound}
 use Rattle.host.specs.Hosts.{turned, plugs}
@@ -196,24 +197,24 @@ sound_plugged l s a i h =
 -- a row that leaves
 
 module _ (p : Row → Bool) where
-  tally-keep : (a : ℕ) (l : List Row) → tally a (keep p l) ≤ tally a l
+  tally-keep : (a : ℕ) (l : List Row) → tally a (filter p l) ≤ tally a l
   tally-keep a [] = omega arith
   tally-keep a (r ∷ l) =
       let ih = tally-keep a l in
-      cond_both (p r) (r ∷ keep p l) (keep p l) (λ ys. tally a ys ≤ tally a (r ∷ l)) (λ _. omega arith) (λ _. omega arith)
+      cond_both (p r) (r ∷ filter p l) (filter p l) (λ ys. tally a ys ≤ tally a (r ∷ l)) (λ _. omega arith) (λ _. omega arith)
 
-  length-keep : (l : List Row) → length (keep p l) ≤ length l
+  length-keep : (l : List Row) → length (filter p l) ≤ length l
   length-keep [] = omega arith
   length-keep (r ∷ l) =
       let ih = length-keep l in
-      cond_both (p r) (r ∷ keep p l) (keep p l) (λ ys. length ys ≤ length (r ∷ l)) (λ _. omega arith) (λ _. omega arith)
+      cond_both (p r) (r ∷ filter p l) (filter p l) (λ ys. length ys ≤ length (r ∷ l)) (λ _. omega arith) (λ _. omega arith)
 
-  ranged-keep : (l : List Row) → all_ranged l ≡ true → all_ranged (keep p l) ≡ true
+  ranged-keep : (l : List Row) → all_ranged l ≡ true → all_ranged (filter p l) ≡ true
   ranged-keep [] h = refl
   ranged-keep (r ∷ l) h =
       let q = and_parts (ranged r.address r.id) (all_ranged l) h in
       let ih = ranged-keep l q.1 in
-      cond_both (p r) (r ∷ keep p l) (keep p l) (λ ys. all_ranged ys ≡ true) (λ _. and_from (ranged r.address r.id) (all_ranged (keep p l)) q.0 ih) (λ _. ih)
+      cond_both (p r) (r ∷ filter p l) (filter p l) (λ ys. all_ranged ys ≡ true) (λ _. and_from (ranged r.address r.id) (all_ranged (filter p l)) q.0 ih) (λ _. ih)
 
 pub sound-without : (l : List Row) → Sound l → (a : ℕ) (i : List ℕ) → Sound (without_row a i l)
 sound-without l s a i = record {

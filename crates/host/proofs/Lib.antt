@@ -1,6 +1,5 @@
 pub mod Keys
 pub mod Keeping
-pub mod Any
 pub mod Calls
 pub mod Makings
 pub mod FindingRows

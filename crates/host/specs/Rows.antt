@@ -1,8 +1,9 @@
 -- Rows by their address and Profile ID, and what a listing is.
 use Rattle.std.specs.Prelude.{◌≡◌, ℕ, ◌+◌, ◌≤◌, Bool, true, false, cond, not, ◌&&◌, ◌||◌, List, [], ◌∷◌, length, Some, None, Option, ◌==◌}
+use Rattle.std.specs.List.{filter}
 use Rattle.std.specs.Str.{bytes_eq}
 use Rattle.rising.specs.Lists.{Rising}
-use Rattle.message.specs.Rows.{row_key, keep, all_ranged}
+use Rattle.message.specs.Rows.{row_key, all_ranged}
 use Rattle.message.specs.declared.row.Row.{Row}
 
 -- the row of that address, ID and state
@@ -32,7 +33,7 @@ has l a i = is_there (look l a i)
 
 -- the rows but that one
 abbrev pub without_row : ℕ → List ℕ → List Row → List Row
-without_row a i l = keep (λ r. not (same a i r)) l
+without_row a i l = filter (λ r. not (same a i r)) l
 
 -- how many rows stand at an address
 abbrev pub tally : ℕ → List Row → ℕ

@@ -1,13 +1,13 @@
 -- Rows of one set that are on at one address, over a switch, a plug and a pull through the sets layer.
 use Rattle.std.proofs.Common.{◌≡◌, ℕ, ◌+◌, ◌<◌, ◌≤◌, Bool, true, false, cond, not, ◌&&◌, eqb, ltb, List, [], ◌∷◌, map, Some, None, Option, sym, refl, subst, arith}
 use Rattle.std.specs.Str.{bytes_eq}
-use Rattle.std.specs.List.{AllByRecursion, list_any}
+use Rattle.std.specs.List.{AllByRecursion, list_any, filter}
 use Rattle.std.proofs.lemmas.Bool.{and_parts, and_from, or_left, or_right, eqb-true, lt-ltb, true≢false, both_ways, cond_both}
 use Rattle.std.proofs.lemmas.Slice.Eq.{bytes_eq-Decides}
 use Rattle.rising.specs.Order.{before}
 use Rattle.rising.specs.Lists.{leads, rising, Rising, entered}
 use Rattle.rising.proofs.Order.{before_irrefl}
-use Rattle.message.specs.Rows.{row_key, keep}
+use Rattle.message.specs.Rows.{row_key}
 use Rattle.message.specs.declared.row.Row.{Row}
 use Rattle.host.specs.Rows.{row, same, look, without_row}
 use Rattle.host.specs.Hosts.{Consents, differs, goes, turned}
@@ -184,11 +184,11 @@ entered-count ms a' g a i (r ∷ l) =
     go false true e = omega arith
     go false false e = refl
 
-kept-count : (ms : List Member) (a' g : ℕ) (p : Row → Bool) (l : List Row) → count_on ms a' g (keep p l) ≤ count_on ms a' g l
+kept-count : (ms : List Member) (a' g : ℕ) (p : Row → Bool) (l : List Row) → count_on ms a' g (filter p l) ≤ count_on ms a' g l
 kept-count ms a' g p [] = omega arith
 kept-count ms a' g p (r ∷ l) = go (p r) (kept-count ms a' g p l)
   where
-    go : (k : Bool) → count_on ms a' g (keep p l) ≤ count_on ms a' g l → count_on ms a' g (cond k (r ∷ keep p l) (keep p l)) ≤ count_on ms a' g (r ∷ l)
+    go : (k : Bool) → count_on ms a' g (filter p l) ≤ count_on ms a' g l → count_on ms a' g (cond k (r ∷ filter p l) (filter p l)) ≤ count_on ms a' g (r ∷ l)
     go true e = omega arith
     go false e = omega arith
 

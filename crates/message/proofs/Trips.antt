@@ -1,5 +1,6 @@
 -- What is written reads back.
 use Rattle.std.proofs.Common.{◌≡◌, ℕ, ◌+◌, ◌-◌, ◌*◌, ◌/◌, ◌%◌, ◌<◌, ◌≤◌, Bool, true, false, cond, eqb, ltb, leb, List, [], ◌∷◌, ◌++◌, length, get_or, take, drop, sym, refl, ap, ◌∙◌, arith}
+use Rattle.std.specs.List.{filter}
 use Rattle.std.proofs.lemmas.List.{append_assoc, append-nil, length-append, take_at, take_all, drop_at, get_or_at, get_or_push}
 use Rattle.std.proofs.lemmas.Bool.{and_parts, and_from, le-leb, le-ltb, eq-eqb, eqb-true, lt-ltb, cond-true, cond-false}
 use Rattle.std.proofs.lemmas.List.Folds.{list_all-append}
@@ -9,7 +10,7 @@ use Rattle.message.specs.Codes.{code, status_code}
 use Rattle.message.specs.Messages.{Fields, muid, encode, framed, fields}
 use Rattle.message.specs.Kinds.{Kind, profile_reply, kind, kind_by, least, count_at, counted_lists, two_lists, with_id, enabled, disabled, added, removed, invalidation}
 use Rattle.message.specs.Reading.{refused, taken_apart, reads}
-use Rattle.message.specs.Rows.{keep, stands, part, ranged, all_ranged}
+use Rattle.message.specs.Rows.{stands, part, ranged, all_ranged}
 use Rattle.message.specs.Sending.{everyone, sends, supports, channels, meant, ids_of, counted, profile_list}
 use Rattle.message.specs.Laws.{given_kind, InRange}
 use Rattle.message.specs.declared.refusal.Refusal.{Refusal}
@@ -202,11 +203,11 @@ fives_go r xs true h f =
     (eqb-true _ _ q.0, q.1, f)
 fives_go r xs false h f = f
 
-pub fives_kept : (p : Row → Bool) (l : List Row) → all_ranged l ≡ true → Fives (keep p l)
+pub fives_kept : (p : Row → Bool) (l : List Row) → all_ranged l ≡ true → Fives (filter p l)
 fives_kept p [] v = tt
 fives_kept p (r ∷ l) v =
     let h = and_parts (ranged r.address r.id) (all_ranged l) v in
-    fives_go r (keep p l) (p r) h.0 (fives_kept p l h.1)
+    fives_go r (filter p l) (p r) h.0 (fives_kept p l h.1)
 
 pub length_ids : (l : List Row) → Fives l → length (ids_of l) ≡ 5 * length l
 length_ids [] f = refl

@@ -1,6 +1,6 @@
 -- Rows of a listing, and those of them at one address.
 use Rattle.std.specs.Prelude.{ℕ, Bool, true, false, cond, not, ◌&&◌, List, [], ◌∷◌, ◌==◌}
-use Rattle.std.specs.List.{list_all}
+use Rattle.std.specs.List.{filter, list_all}
 use Rattle.rising.specs.Order.{Key}
 use Rattle.message.specs.Bytes.{is_address, is_id}
 use Rattle.message.specs.declared.pair.Pair.{Pair}
@@ -23,11 +23,6 @@ pair_key p = p.address ∷ p.id
 abbrev pub row_key : Row → Key
 row_key r = r.address ∷ r.id
 
--- the rows that pass a test
-abbrev pub keep : (Row → Bool) → List Row → List Row
-keep p [] = []
-keep p (r ∷ l) = cond (p r) (r ∷ keep p l) (keep p l)
-
 abbrev pub agree : Bool → Bool → Bool
 agree true b = b
 agree false b = not b
@@ -38,7 +33,7 @@ stands a on r = r.address == a && agree r.on on
 
 -- the rows at the address that are on, or off, in the listing's order
 abbrev pub part : ℕ → Bool → List Row → List Row
-part a on l = keep (stands a on) l
+part a on l = filter (stands a on) l
 
 abbrev pub rows_of : Part → List Row
 rows_of p = part p.address p.on p.rows.now

@@ -1,7 +1,7 @@
 -- Reports of a switch: which rows they are about, and how many.
 use Rattle.std.proofs.Common.{◌≡◌, ℕ, zero, suc, ◌+◌, ◌*◌, ◌<◌, ◌≤◌, Bool, true, false, cond, not, ◌&&◌, eqb, List, [], ◌∷◌, ◌++◌, map, length, get_or, drop, Some, Option, sym, refl, ap, ◌∙◌, arith}
 use Rattle.std.proofs.lemmas.List.{length-append, append_assoc, append-nil, at_drop_more}
-use Rattle.std.specs.List.{AllByRecursion}
+use Rattle.std.specs.List.{AllByRecursion, filter}
 use Rattle.std.specs.Str.{bytes_eq}
 use Rattle.std.proofs.lemmas.Bool.{and_parts, both_ways, eqb-true, not-true, cond-false}
 use Rattle.rising.specs.Lists.{leads, Rising}
@@ -11,7 +11,7 @@ use Rattle.message.specs.Sending.{channels, report}
 use Rattle.message.proofs.Encoding.{length-encode}
 use Rattle.message.proofs.Parts.{no_row}
 use Rattle.message.proofs.Trips.{Fives, fives_kept}
-use Rattle.message.specs.Rows.{row_key, keep, ranged, all_ranged}
+use Rattle.message.specs.Rows.{row_key, ranged, all_ranged}
 use Rattle.message.specs.Writing.{Put}
 use Rattle.message.proofs.Places.{put_by, written_none, as_bytes}
 use Rattle.message.specs.declared.row.Row.{Row}
@@ -62,11 +62,11 @@ switched_elsewhere a i on N l true b j h = look_elsewhere a i on N l b j h
 switched_elsewhere a i on N l false b j h = refl
 
 -- the rows that pass a test which holds only at an address are at most as many as stand there
-kept-few : (p : Row → Bool) (a : ℕ) (l : List Row) → AllByRecursion (λ r. p r ≡ true → eqb a r.address ≡ true) l → length (keep p l) ≤ tally a l
+kept-few : (p : Row → Bool) (a : ℕ) (l : List Row) → AllByRecursion (λ r. p r ≡ true → eqb a r.address ≡ true) l → length (filter p l) ≤ tally a l
 kept-few p a [] h = omega arith
 kept-few p a (r ∷ l) h = go (p r) (eqb a r.address) h.0 (kept-few p a l h.1)
   where
-    go : (b c : Bool) → (b ≡ true → c ≡ true) → length (keep p l) ≤ tally a l → length (cond b (r ∷ keep p l) (keep p l)) ≤ cond c 1 0 + tally a l
+    go : (b c : Bool) → (b ≡ true → c ≡ true) → length (filter p l) ≤ tally a l → length (cond b (r ∷ filter p l) (filter p l)) ≤ cond c 1 0 + tally a l
     go true true f k = omega arith
     go true false f k = absurd (both_ways false refl (f refl))
     go false true f k = omega arith
@@ -112,13 +112,13 @@ pub falls_more : (own a : ℕ) (i : List ℕ) (l' l : List Row) (k : ℕ) → k 
 falls_more own a i l' l k h = at_drop_more (falls own a i l') l k no_row h
 
 -- the reports one after the other are those of the rows that fell
-falls-kept : (own a : ℕ) (i : List ℕ) (l' l : List Row) → falls own a i l' l ≡ bytes (map (λ r. report own r.address r.id false) (keep (fell a i l') l))
+falls-kept : (own a : ℕ) (i : List ℕ) (l' l : List Row) → falls own a i l' l ≡ bytes (map (λ r. report own r.address r.id false) (filter (fell a i l') l))
 falls-kept own a i l' [] = refl
 falls-kept own a i l' (r ∷ l) = go (fell a i l' r) (falls-kept own a i l' l)
   where
-    go : (b : Bool) → falls own a i l' l ≡ bytes (map (λ r. report own r.address r.id false) (keep (fell a i l') l))
+    go : (b : Bool) → falls own a i l' l ≡ bytes (map (λ r. report own r.address r.id false) (filter (fell a i l') l))
         → cond b (encode (report own r.address r.id false)) [] ++ falls own a i l' l
-        ≡ bytes (map (λ r. report own r.address r.id false) (cond b (r ∷ keep (fell a i l') l) (keep (fell a i l') l)))
+        ≡ bytes (map (λ r. report own r.address r.id false) (cond b (r ∷ filter (fell a i l') l) (filter (fell a i l') l)))
     go true h = ap (λ (xs : List ℕ). encode (report own r.address r.id false) ++ xs) h
     go false h = h
 

@@ -1,9 +1,8 @@
 -- What a call does, over any host.
 use Rattle.std.specs.Prelude.{◌≡◌, ℕ, ◌≤◌, Bool, false, cond, not, ◌&&◌, List, [], ◌∷◌, ◌++◌, map, length, take, drop, Ok, Err, Result}
-use Rattle.std.specs.List.{flat_map}
+use Rattle.std.specs.List.{flat_map, filter}
 use Rattle.std.specs.List.Sorted.{IsPermutation}
 use Rattle.message.specs.Messages.{Fields, encode}
-use Rattle.message.specs.Rows.{keep}
 use Rattle.message.specs.Sending.{profile_list, report}
 use Rattle.message.specs.declared.refusal.Refusal.{Refusal}
 use Rattle.message.specs.declared.row.Row.{Row}
@@ -55,7 +54,7 @@ fell a i l' r = r.on && (not (same a i r) && not (is_on (look l' r.address r.id)
 
 -- the other rows that stood on before and stand off after
 abbrev pub put_off : ℕ → List ℕ → List Row → List Row → List Row
-put_off a i l l' = keep (fell a i l') l
+put_off a i l l' = filter (fell a i l') l
 
 -- the Disabled Report of a row that fell, and nothing for another
 abbrev pub fall_there : (own a : ℕ) → List ℕ → List Row → Row → List ℕ

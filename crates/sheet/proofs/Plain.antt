@@ -1,7 +1,7 @@
 -- Facts on words and lists that the functions rest on.
 use Rattle.std.proofs.Common.{Ordering, Less, Equal, Greater, is_lt, ◌≡◌, ℕ, suc, ◌+◌, ◌-◌, ◌%◌, ◌<◌, ◌≤◌, Bool, true, false, cond, eqb, ltb, List, [], ◌∷◌, length, get_or, take, drop, Some, None, Option, sym, refl, ap, ◌∙◌, arith}
 use Rattle.std.specs.Str.{bytes_eq}
-use Rattle.std.specs.List.{filter, find}
+use Rattle.std.specs.List.{find}
 use Rattle.std.specs.Bool.{then_some}
 use Rattle.std.specs.Option.{MatchOption}
 use Rattle.std.specs.Int.{w32, from_be_bytes}
@@ -9,22 +9,12 @@ use Rattle.std.proofs.lemmas.Bool.Decides.{nat_tests}
 use Rattle.std.specs.Ordering.{MatchOrdering}
 use Rattle.rising.specs.Order.{Key, before, Before}
 use Rattle.rising.proofs.Order.{not_before}
-use Rattle.message.specs.declared.row.Row.{Row}
 use Rattle.sheet.specs.Words.{words}
 use Rattle.layers.specs.declared.member.Member.{Member}
 use Rattle.layers.specs.Sets.{set_of}
 use Rattle.sheet.specs.Reading.{sized}
 use Rattle.std.proofs.lemmas.Bool.{ltb-true, and_from, le-leb, eq-eqb}
-use Rattle.host.specs.Rows.{tally}
 use Rattle.sheet.specs.Contents.{after}
-
-pub tally_filter : (a : ℕ) (rows : List Row) → length (filter (λ (r : Row). eqb a r.address) rows) ≡ tally a rows
-tally_filter a [] = refl
-tally_filter a (r ∷ rows) = counted (eqb a r.address) (tally_filter a rows)
-  where
-    counted : (b : Bool) → length (filter (λ (r : Row). eqb a r.address) rows) ≡ tally a rows → length (cond b (r ∷ filter (λ (r : Row). eqb a r.address) rows) (filter (λ (r : Row). eqb a r.address) rows)) ≡ cond b 1 0 + tally a rows
-    counted true h = omega (arith, h)
-    counted false h = omega (arith, h)
 
 pub after_last : {X : Type 0} (key : X → Key) (xs : List X) (x y d : X) → 0 < length xs → y ≡ get_or xs (length xs - 1) y → after key xs x ≡ before (key y) (key x)
 after_last key [] x y d l e = absurd (omega arith)

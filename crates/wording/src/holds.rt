@@ -1,7 +1,7 @@
 //! What a message holds, in words.
 use crate::names::status_meaning;
 use crate::parts::{Device, Hex, Kind};
-use message::muid_number;
+use message::{SubId, muid_number};
 use std::fmt;
 
 /// The body of a Discovery or of its reply: who sends it and what it can do.
@@ -103,10 +103,9 @@ impl fmt::Display for Unread {
         if self.version == 0 {
             return write!(f, ": not read, version 0");
         }
-        // by the byte: what is at hand may be any Sub-ID, and `SubId` gives no case for a byte
-        match self.sub_id {
-            0x20..=0x27 | 0x70 | 0x71 | 0x7E | 0x7F => write!(f, ": not read, too short"),
-            _ => Ok(()),
+        match SubId::try_from(self.sub_id) {
+            Ok(_) => write!(f, ": not read, too short"),
+            Err(_) => Ok(()),
         }
     }
 }
