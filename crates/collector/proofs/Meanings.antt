@@ -141,26 +141,27 @@ grows xs [] y fine room r p q = let k = length-append xs [] in absurd (omega ari
 grows xs (z ∷ rest) y fine room r p q =
     let f = call (state_of (Some xs) (z ∷ rest)) y in
     elim (cases_lt y 0x80) [
-    | inl low ↦
-    let k = length_push xs y in
-    let same = same_length (0xF0 ∷ xs) rest z y in
-    goes_on f _ (Some (xs ++ (y ∷ []))) rest (omega arith, data_push xs y fine.1 low) (omega arith) (joins_open xs rest z y room low r)
-    (λ stream.
-    ap (λ (ms : List (List ℕ)). ms ++ begun_in (y ∷ stream)) (becomes-joined xs stream y low)
-    ∙ ap (λ (ms : List (List ℕ)). becomes (xs ++ (y ∷ [])) stream ++ ms) (passes y stream q))
-    | inr high ↦ elim (cases_eq y 0xF7) [
-    | inl e ↦
-    let same = same_length (0xF0 ∷ xs) rest z 0xF7 in
-    ends f _ xs rest fine.1 (omega arith) (omega arith)
-    (ap (λ (b : ℕ). call (state_of (Some xs) (z ∷ rest)) b) e ∙ ends_open xs rest z room r)
-    (λ stream.
-    ap (λ (b : ℕ). means (Some xs) (b ∷ stream)) e
-    ∙ ap (λ (ms : List (List ℕ)). ms ++ begun_in stream) (becomes-ended xs stream (omega arith)))
-    | inr ne ↦
-    goes_on f _ None ((0xF0 ∷ xs) ++ (z ∷ rest)) tt r
-    (drops (length (0xF0 ∷ xs)) y ((0xF0 ∷ xs) ++ (z ∷ rest)) p q ne high r)
-    (λ stream. drops_it xs stream y q (becomes_dropped xs stream y high ne))
-    ] ]
+      | inl low ↦
+          let k = length_push xs y in
+          let same = same_length (0xF0 ∷ xs) rest z y in
+          goes_on f _ (Some (xs ++ (y ∷ []))) rest (omega arith, data_push xs y fine.1 low) (omega arith) (joins_open xs rest z y room low r)
+          (λ stream.
+          ap (λ (ms : List (List ℕ)). ms ++ begun_in (y ∷ stream)) (becomes-joined xs stream y low)
+          ∙ ap (λ (ms : List (List ℕ)). becomes (xs ++ (y ∷ [])) stream ++ ms) (passes y stream q))
+      | inr high ↦ elim (cases_eq y 0xF7) [
+        | inl e ↦
+            let same = same_length (0xF0 ∷ xs) rest z 0xF7 in
+            ends f _ xs rest fine.1 (omega arith) (omega arith)
+            (ap (λ (b : ℕ). call (state_of (Some xs) (z ∷ rest)) b) e ∙ ends_open xs rest z room r)
+            (λ stream.
+            ap (λ (b : ℕ). means (Some xs) (b ∷ stream)) e
+            ∙ ap (λ (ms : List (List ℕ)). ms ++ begun_in stream) (becomes-ended xs stream (omega arith)))
+        | inr ne ↦
+            goes_on f _ None ((0xF0 ∷ xs) ++ (z ∷ rest)) tt r
+            (drops (length (0xF0 ∷ xs)) y ((0xF0 ∷ xs) ++ (z ∷ rest)) p q ne high r)
+            (λ stream. drops_it xs stream y q (becomes_dropped xs stream y high ne))
+      ]
+    ]
 
 plainly : (o : Option (List ℕ)) (rest : List ℕ) (y : ℕ) → Fine o → 512 ≤ length (state_of o rest).buffer → y < 0xF8
     → (y ≡ 0xF0 → ⊥) → Moves (call (state_of o rest) y) (λ stream. means o (y ∷ stream))
@@ -168,11 +169,11 @@ plainly None rest y fine r p q =
     goes_on (call (state_of None rest) y) _ None rest tt r (idles y rest p q r) (λ stream. passes y stream q)
 plainly (Some xs) rest y fine r p q =
     elim (cases_lt (length xs) 511) [
-    | inl room ↦ grows xs rest y fine room r p q
-    | inr none ↦
-    let n : length xs ≡ 511 = omega (arith, fine.0) in
-    goes_on (call (state_of (Some xs) rest) y) _ None ((0xF0 ∷ xs) ++ rest) tt r (full_open xs ((0xF0 ∷ xs) ++ rest) y n p q r)
-    (λ stream. drops_it xs stream y q (becomes-long xs (y ∷ stream) (omega arith)))
+      | inl room ↦ grows xs rest y fine room r p q
+      | inr none ↦
+          let n : length xs ≡ 511 = omega (arith, fine.0) in
+          goes_on (call (state_of (Some xs) rest) y) _ None ((0xF0 ∷ xs) ++ rest) tt r (full_open xs ((0xF0 ∷ xs) ++ rest) y n p q r)
+          (λ stream. drops_it xs stream y q (becomes-long xs (y ∷ stream) (omega arith)))
     ]
 
 -- F8h–FFh are left out of the stream
@@ -182,14 +183,15 @@ At o rest y real_time = Moves (call (state_of o rest) y) (λ stream. means o (co
 moves : (o : Option (List ℕ)) (rest : List ℕ) (y : ℕ) → Fine o → 512 ≤ length (state_of o rest).buffer → At o rest y (leb 0xF8 y)
 moves o rest y fine r =
     elim (cases_lt y 0xF8) [
-    | inl low ↦
-    subst (At o rest y) (sym (lt-leb 0xF8 y low))
-    (elim (cases_eq y 0xF0) [
-    | inl e ↦ subst (λ (b : ℕ). At o rest b false) (sym e) (opens_at o rest r)
-    | inr ne ↦ plainly o rest y fine r low ne ])
-    | inr high ↦
-    subst (At o rest y) (sym (le-leb 0xF8 y high))
-    (goes_on (call (state_of o rest) y) _ o rest fine r (skips (state_of o rest).held y (state_of o rest).buffer high r) (λ stream. refl))
+      | inl low ↦
+          subst (At o rest y) (sym (lt-leb 0xF8 y low))
+          (elim (cases_eq y 0xF0) [
+            | inl e ↦ subst (λ (b : ℕ). At o rest b false) (sym e) (opens_at o rest r)
+            | inr ne ↦ plainly o rest y fine r low ne
+          ])
+      | inr high ↦
+          subst (At o rest y) (sym (le-leb 0xF8 y high))
+          (goes_on (call (state_of o rest) y) _ o rest fine r (skips (state_of o rest).held y (state_of o rest).buffer high r) (λ stream. refl))
     ]
 
 moves_of : (s : State) (y : ℕ) (h : Sound s) → Moves (call s y) (λ stream. means h.open_now (cond (leb 0xF8 y) stream (y ∷ stream)))

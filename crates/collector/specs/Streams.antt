@@ -1,5 +1,5 @@
 -- A stream of bytes: what the calls make of it, and which messages stand in it.
-use Rattle.std.specs.Prelude.{ℕ, Bool, true, false, cond, ◌&&◌, List, [], ◌∷◌, ◌++◌, length, take, Some, None, Ok, Err, Option, Result, ◌==◌, nat_le, nat_lt}
+use Rattle.std.specs.Prelude.{ℕ, Bool, false, cond, ◌&&◌, List, [], ◌∷◌, ◌++◌, length, take, Some, None, Ok, Err, Option, Result, ◌==◌, nat_le}
 use Rattle.message.specs.declared.refusal.Refusal.{Refusal}
 use Rattle.collector.specs.Step.{Fed, feeds}
 

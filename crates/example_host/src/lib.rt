@@ -13,20 +13,21 @@ mod tests {
     use message::Pair;
     use std::process::Abort;
 
-    fn at(address: u8, id: [u8; 5]) -> Pair {
-        Pair { address, id }
-    }
-
     // Knows no more of the keyboard than that it is a host.
     fn play<P: Host>(rt: &impl Abort, host: &mut P) {
-        assert!(rt; host.switch(at(0, ORGAN), true));
-        assert!(rt; !host.switch(at(0, ORGAN), true), "on already");
-        assert!(rt; host.puts_off(at(0, PIANO), ORGAN) && !host.puts_off(at(0, PIANO), PIANO));
-        assert!(rt; host.switch(at(0, PIANO), true));
-        assert!(rt; !host.switch(at(0, ORGAN), false), "put off by the piano");
-        assert!(rt; !host.switch(at(1, PIANO), true), "another channel");
+        assert!(rt; host.switch(Pair::new(0, ORGAN), true));
+        assert!(rt; !host.switch(Pair::new(0, ORGAN), true), "on already");
         assert!(rt;
-            !host.pull(at(0, ORGAN)) && !host.plug(at(1, ORGAN)),
+            host.puts_off(Pair::new(0, PIANO), ORGAN) && !host.puts_off(Pair::new(0, PIANO), PIANO)
+        );
+        assert!(rt; host.switch(Pair::new(0, PIANO), true));
+        assert!(rt;
+            !host.switch(Pair::new(0, ORGAN), false),
+            "put off by the piano"
+        );
+        assert!(rt; !host.switch(Pair::new(1, PIANO), true), "another channel");
+        assert!(rt;
+            !host.pull(Pair::new(0, ORGAN)) && !host.plug(Pair::new(1, ORGAN)),
             "fixed"
         );
         assert_eq!(rt; host.rows().len(), 2);

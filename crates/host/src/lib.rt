@@ -24,50 +24,51 @@ mod tests {
 
     const ORGAN: [u8; 5] = [0x7E, 2, 0, 0, 1];
 
-    fn at(address: u8, id: [u8; 5]) -> Pair
-        ensures { (result.address ≡ address) × (result.id ≡ id) }
-    {
-        Pair { address, id }
-    }
-
     fn row(address: u8, number: u8, on: bool) -> Row {
-        Row::new(at(address, [number, 0, 0, 0, 0]), on)
+        Row::new(Pair::new(address, [number, 0, 0, 0, 0]), on)
     }
 
     #[test]
     fn switches(rt: HostRuntime) {
         let mut host = Table::empty();
-        assert!(rt; !host.switch(at(0, PIANO), true), "unlisted");
-        assert!(rt; host.plug(at(0, PIANO)));
+        assert!(rt; !host.switch(Pair::new(0, PIANO), true), "unlisted");
+        assert!(rt; host.plug(Pair::new(0, PIANO)));
         assert!(rt;
-            host.may_go_on(at(0, PIANO)) && host.may_go_off(at(0, PIANO)),
+            host.may_go_on(Pair::new(0, PIANO)) && host.may_go_off(Pair::new(0, PIANO)),
             "listed"
         );
         assert!(rt;
-            !host.may_go_on(at(1, PIANO)) && !host.may_go_off(at(0, ORGAN)),
+            !host.may_go_on(Pair::new(1, PIANO)) && !host.may_go_off(Pair::new(0, ORGAN)),
             "not listed"
         );
-        assert!(rt; !host.switch(at(0, PIANO), false), "off already");
-        assert!(rt; host.switch(at(0, PIANO), true));
-        assert!(rt; !host.switch(at(0, PIANO), true), "on already");
+        assert!(rt; !host.switch(Pair::new(0, PIANO), false), "off already");
+        assert!(rt; host.switch(Pair::new(0, PIANO), true));
+        assert!(rt; !host.switch(Pair::new(0, PIANO), true), "on already");
         assert!(rt; host.rows()[0].on);
-        assert!(rt; host.switch(at(0, PIANO), false));
+        assert!(rt; host.switch(Pair::new(0, PIANO), false));
     }
 
     #[test]
     fn plugs_and_pulls(rt: HostRuntime) {
         let mut host = Table::empty();
-        assert!(rt; host.plug(at(1, ORGAN)) && host.plug(at(1, PIANO)) && host.plug(at(0, ORGAN)));
-        assert!(rt; !host.plug(at(1, PIANO)), "present");
-        assert!(rt; !host.plug(at(0x10, PIANO)), "no address");
-        assert!(rt; !host.plug(at(0, [0x80, 0, 0, 0, 0])), "no Profile ID");
+        assert!(rt;
+            host.plug(Pair::new(1, ORGAN))
+                && host.plug(Pair::new(1, PIANO))
+                && host.plug(Pair::new(0, ORGAN))
+        );
+        assert!(rt; !host.plug(Pair::new(1, PIANO)), "present");
+        assert!(rt; !host.plug(Pair::new(0x10, PIANO)), "no address");
+        assert!(rt;
+            !host.plug(Pair::new(0, [0x80, 0, 0, 0, 0])),
+            "no Profile ID"
+        );
         assert_eq!(rt; host.rows()[0].address, 0);
         assert_eq!(rt; host.rows()[1].id, PIANO);
         assert!(rt; !host.rows()[1].on, "enters as off");
-        assert!(rt; host.switch(at(1, PIANO), true));
-        assert!(rt; !host.pull(at(1, PIANO)), "on");
-        assert!(rt; host.pull(at(1, ORGAN)));
-        assert!(rt; !host.pull(at(1, ORGAN)), "gone");
+        assert!(rt; host.switch(Pair::new(1, PIANO), true));
+        assert!(rt; !host.pull(Pair::new(1, PIANO)), "on");
+        assert!(rt; host.pull(Pair::new(1, ORGAN)));
+        assert!(rt; !host.pull(Pair::new(1, ORGAN)), "gone");
         assert_eq!(rt; host.rows().len(), 2);
     }
 
@@ -75,14 +76,14 @@ mod tests {
     fn limits_of_plugs(rt: HostRuntime) {
         let mut host = Table::empty();
         for number in 0..21u8 {
-            assert!(rt; host.plug(at(0x7F, [number, 0, 0, 0, 0])));
+            assert!(rt; host.plug(Pair::new(0x7F, [number, 0, 0, 0, 0])));
         }
-        assert!(rt; !host.plug(at(0x7F, PIANO)), "22 at one address");
+        assert!(rt; !host.plug(Pair::new(0x7F, PIANO)), "22 at one address");
         for number in 0..43u8 {
-            assert!(rt; host.plug(at(number / 16, [number, 0, 0, 0, 0])));
+            assert!(rt; host.plug(Pair::new(number / 16, [number, 0, 0, 0, 0])));
         }
         assert_eq!(rt; host.rows().len(), 64);
-        assert!(rt; !host.plug(at(5, PIANO)), "65 in all");
+        assert!(rt; !host.plug(Pair::new(5, PIANO)), "65 in all");
     }
 
     // As many rows at each address as may stand there, and one more than a listing has.
@@ -149,7 +150,7 @@ mod tests {
                 assert!(rt;
                     !host.switch(rows[0].pair(), true) && !host.switch(rows[1].pair(), false)
                 );
-                assert!(rt; !host.plug(at(0, PIANO)) && !host.pull(rows[0].pair()));
+                assert!(rt; !host.plug(Pair::new(0, PIANO)) && !host.pull(rows[0].pair()));
                 assert_eq!(rt; host.rows().len(), 2);
                 assert!(rt; !host.rows()[0].on && host.rows()[1].on);
             }

@@ -22,36 +22,30 @@ mod tests {
 
     const THIRD: [u8; 5] = [3, 0, 0, 0, 0];
 
-    fn at(address: u8, id: [u8; 5]) -> Pair
-        ensures { (result.address ≡ address) × (result.id ≡ id) }
-    {
-        Pair { address, id }
-    }
-
     fn is_on<P: Host>(pile: &P, k: usize) -> bool {
         pile.rows().get(k).is_some_and(|row| row.on)
     }
 
     // The first and the second are in one set, and the first is on and held: whether the second goes on, and the first off.
     fn second_goes_on<P: Host>(rt: &impl Abort, pile: &mut P, goes: bool) {
-        assert_eq!(rt; pile.may_go_on(at(0, SECOND)), goes);
-        assert_eq!(rt; pile.puts_off(at(0, SECOND), FIRST), goes);
-        assert_eq!(rt; pile.switch(at(0, SECOND), true), goes);
+        assert_eq!(rt; pile.may_go_on(Pair::new(0, SECOND)), goes);
+        assert_eq!(rt; pile.puts_off(Pair::new(0, SECOND), FIRST), goes);
+        assert_eq!(rt; pile.switch(Pair::new(0, SECOND), true), goes);
         assert_eq!(rt; is_on(pile, 0), !goes);
         assert_eq!(rt; is_on(pile, 1), goes);
-        assert!(rt; !pile.may_go_on(at(0, FIRST)), "held");
-        assert!(rt; !pile.may_go_off(at(0, FIRST)), "held");
-        assert!(rt; !pile.switch(at(0, FIRST), goes), "held");
-        assert!(rt; !pile.may_go_on(at(1, SECOND)), "not listed");
+        assert!(rt; !pile.may_go_on(Pair::new(0, FIRST)), "held");
+        assert!(rt; !pile.may_go_off(Pair::new(0, FIRST)), "held");
+        assert!(rt; !pile.switch(Pair::new(0, FIRST), goes), "held");
+        assert!(rt; !pile.may_go_on(Pair::new(1, SECOND)), "not listed");
         assert!(rt;
-            !pile.plug(at(1, SECOND)) && !pile.pull(at(0, THIRD)),
+            !pile.plug(Pair::new(1, SECOND)) && !pile.pull(Pair::new(0, THIRD)),
             "fixed"
         );
     }
 
     #[test]
     fn a_held_rival(rt: HostRuntime) {
-        let pairs = Pairs::from_slice(&[at(0, FIRST)]).expect(&rt, "pairs");
+        let pairs = Pairs::from_slice(&[Pair::new(0, FIRST)]).expect(&rt, "pairs");
         let members = Members::from_slice(&[
             Member { id: FIRST, set: 8 },
             Member { id: SECOND, set: 8 },
@@ -70,27 +64,27 @@ mod tests {
 
     fn rows() -> [Row; 3] {
         [
-            Row::new(at(0, FIRST), true),
-            Row::new(at(0, SECOND), false),
-            Row::new(at(0, THIRD), false),
+            Row::new(Pair::new(0, FIRST), true),
+            Row::new(Pair::new(0, SECOND), false),
+            Row::new(Pair::new(0, THIRD), false),
         ]
     }
 
     // The first and the second are in one set, and the third is held: what goes where rows can change, and where nothing does.
     fn play<P: Host>(rt: &impl Abort, pile: &mut P, changes: bool) {
-        assert_eq!(rt; pile.switch(at(0, SECOND), true), changes);
+        assert_eq!(rt; pile.switch(Pair::new(0, SECOND), true), changes);
         assert_eq!(rt; is_on(pile, 0), !changes, "the rival");
         assert_eq!(rt; is_on(pile, 1), changes);
-        assert!(rt; !pile.switch(at(0, THIRD), true), "held");
+        assert!(rt; !pile.switch(Pair::new(0, THIRD), true), "held");
         assert_eq!(rt; pile.is_fixed(), !changes);
-        assert_eq!(rt; pile.plug(at(1, FIRST)), changes);
-        assert_eq!(rt; pile.pull(at(0, FIRST)), changes);
+        assert_eq!(rt; pile.plug(Pair::new(1, FIRST)), changes);
+        assert_eq!(rt; pile.pull(Pair::new(0, FIRST)), changes);
         assert_eq!(rt; pile.rows().len(), 3);
     }
 
     #[test]
     fn piles_over_the_two_hosts(rt: HostRuntime) {
-        let held = [at(0, THIRD)];
+        let held = [Pair::new(0, THIRD)];
         let set = [Member { id: FIRST, set: 1 }, Member { id: SECOND, set: 1 }];
         let pairs = Pairs::from_slice(&held).expect(&rt, "pairs");
         let members = Members::from_slice(&set).expect(&rt, "members");
@@ -117,10 +111,10 @@ mod tests {
         ])
         .expect(&rt, "members");
         let mut sets = Sets::over(Desk::with(true, true, false), members);
-        assert!(rt; !sets.switch(at(0, SECOND), true), "on already");
-        assert!(rt; !sets.switch(at(0, THIRD), false), "off already");
+        assert!(rt; !sets.switch(Pair::new(0, SECOND), true), "on already");
+        assert!(rt; !sets.switch(Pair::new(0, THIRD), false), "off already");
         assert!(rt; is_on(&sets, 0) && is_on(&sets, 1), "as they were");
-        assert!(rt; sets.switch(at(0, THIRD), true));
+        assert!(rt; sets.switch(Pair::new(0, THIRD), true));
         assert!(rt; !is_on(&sets, 0) && !is_on(&sets, 1) && is_on(&sets, 2));
     }
 
@@ -131,16 +125,16 @@ mod tests {
             Member { id: SECOND, set: 1 },
         ]).expect(&rt, "members");
         let mut sets = Sets::over(Desk::with(false, true, true), members);
-        assert!(rt; sets.puts_off(at(0, FIRST), SECOND), "a rival");
-        assert!(rt; sets.puts_off(at(0, FIRST), THIRD), "named below");
-        assert!(rt; !sets.puts_off(at(0, SECOND), THIRD), "in no set");
-        assert!(rt; sets.switch(at(0, FIRST), true));
+        assert!(rt; sets.puts_off(Pair::new(0, FIRST), SECOND), "a rival");
+        assert!(rt; sets.puts_off(Pair::new(0, FIRST), THIRD), "named below");
+        assert!(rt; !sets.puts_off(Pair::new(0, SECOND), THIRD), "in no set");
+        assert!(rt; sets.switch(Pair::new(0, FIRST), true));
         assert!(rt; is_on(&sets, 0) && !is_on(&sets, 1) && !is_on(&sets, 2));
     }
 
     #[test]
     fn pairs_refused(rt: HostRuntime) {
-        let falling = [at(1, FIRST), at(0, SECOND)];
+        let falling = [Pair::new(1, FIRST), Pair::new(0, SECOND)];
         assert_eq!(rt; Pairs::from_slice(&falling).err(), Some(Refusal::NotRising));
         assert_eq!(rt; Pairs::from_slice(&falling[0..0]).err(), None, "none");
         let mut bad = falling;
@@ -150,7 +144,7 @@ mod tests {
             Some(Refusal::FieldOutOfRange),
             "range before order"
         );
-        bad[1] = at(0x7F, [1, 0, 0, 0, 0x80]);
+        bad[1] = Pair::new(0x7F, [1, 0, 0, 0, 0x80]);
         assert_eq!(rt;
             Pairs::from_slice(&bad).err(),
             Some(Refusal::FieldOutOfRange),

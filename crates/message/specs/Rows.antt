@@ -1,5 +1,5 @@
 -- Rows of a listing, and those of them at one address.
-use Rattle.std.specs.Prelude.{ℕ, Bool, true, false, cond, not, ◌&&◌, List, [], ◌∷◌, ◌==◌}
+use Rattle.std.specs.Prelude.{ℕ, Bool, true, false, not, ◌&&◌, List, ◌∷◌, ◌==◌}
 use Rattle.std.specs.List.{filter, list_all}
 use Rattle.rising.specs.Order.{Key}
 use Rattle.message.specs.Bytes.{is_address, is_id}
@@ -7,9 +7,13 @@ use Rattle.message.specs.declared.pair.Pair.{Pair}
 use Rattle.message.specs.declared.row.Row.{Row}
 use Rattle.message.specs.declared.listing.Part.{Part}
 
+-- the pair of an address and an ID
+abbrev pub paired : ℕ → List ℕ → Pair
+paired a i = record { address = a; id = i }
+
 -- what names a row
 abbrev pub pair_of : Row → Pair
-pair_of r = record { address = r.address; id = r.id }
+pair_of r = paired r.address r.id
 
 -- the row that a pair names, on or off
 abbrev pub named : Pair → Bool → Row

@@ -1,6 +1,6 @@
 //! What names a row.
 ghost use Rattle.std.specs.Prelude.{◌≡◌};
-ghost use Rattle.message.specs.Rows.{pair_key, pair_ranged};
+ghost use Rattle.message.specs.Rows.{pair_key, pair_ranged, paired};
 
 use crate::address::Address;
 use crate::bytes::all_seven_bits;
@@ -15,6 +15,13 @@ pub struct Pair {
 }
 
 impl Pair {
+    /// The pair of an address and an ID, in range or not.
+    pub fn new(address: u8, id: [u8; 5]) -> Pair
+        ensures { result ≡ paired address id }
+    {
+        Pair { address, id }
+    }
+
     /// Whether the address is one and every byte of the ID is below 80h.
     pub fn in_range(self) -> bool
         ensures { result ≡ pair_ranged self }

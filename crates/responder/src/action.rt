@@ -1,6 +1,6 @@
 //! What is done with a message.
 ghost use Rattle.std.specs.Prelude.{◌≡◌, ℕ, false, MatchOption};
-ghost use Rattle.message.specs.Rows.{pair_ranged};
+ghost use Rattle.message.specs.Rows.{pair_ranged, paired};
 ghost use Rattle.message.specs.Sending.{meant, report};
 
 use message::{Address, Muid, Pair, ProfileId, Sent};
@@ -25,13 +25,9 @@ impl Named {
 
     /// What names it.
     pub fn pair(self) -> Pair
-        ensures { result ≡ record { address = self.address.byte; id = self.id.bytes } }
+        ensures { result ≡ paired self.address.byte self.id.bytes }
     {
-        let ProfileId { bytes: id } = self.id;
-        Pair {
-            address: self.address.byte,
-            id,
-        }
+        Pair::new(self.address.byte, self.id.bytes)
     }
 
     /// The report that it is on, or off.

@@ -96,11 +96,7 @@ impl Inquiry<'_> {
         let Ok(id) = <[u8; 5]>::try_from(id) else {
             return self.deny(NakStatus::Malformed);
         };
-        let pair = Pair {
-            address: address.byte,
-            id,
-        };
-        match self.listing.find(pair) {
+        match self.listing.find(Pair::new(address.byte, id)) {
             Some(named) => Ok(Action::Switch { named, on }),
             None => self.deny(NakStatus::NoSuchProfile),
         }

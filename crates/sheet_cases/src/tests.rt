@@ -225,10 +225,6 @@ fn the_last_collision(rt: HostRuntime) -> Result<(), Fail> {
     Ok(())
 }
 
-fn at(address: u8, id: [u8; 5]) -> Pair {
-    Pair { address, id }
-}
-
 // Three rows of one set at Channel 1, the second on, and a row at the Group that is held on.
 fn organ(rt: &impl AllocGlobal) -> Result<Writing, AllocError> {
     let mut writing = Writing::new(rt.alloc())?;
@@ -256,13 +252,19 @@ fn an_organ(rt: HostRuntime) -> Result<(), Fail> {
     assert_eq!(rt; pile.rows().len(), 4);
     assert!(rt; !pile.is_fixed());
     assert!(rt;
-        pile.puts_off(at(0, [0, 0, 0, 0, 2]), [0, 0, 0, 0, 3]),
+        pile.puts_off(Pair::new(0, [0, 0, 0, 0, 2]), [0, 0, 0, 0, 3]),
         "of one set"
     );
-    assert!(rt; pile.switch(at(0, [0, 0, 0, 0, 2]), true));
-    assert!(rt; !pile.switch(at(0, [0, 0, 0, 0, 3]), false), "off by now");
-    assert!(rt; !pile.switch(at(0x7E, [0, 0, 0, 0, 5]), false), "held");
-    assert!(rt; pile.plug(at(1, [0, 0, 0, 0, 2])));
+    assert!(rt; pile.switch(Pair::new(0, [0, 0, 0, 0, 2]), true));
+    assert!(rt;
+        !pile.switch(Pair::new(0, [0, 0, 0, 0, 3]), false),
+        "off by now"
+    );
+    assert!(rt;
+        !pile.switch(Pair::new(0x7E, [0, 0, 0, 0, 5]), false),
+        "held"
+    );
+    assert!(rt; pile.plug(Pair::new(1, [0, 0, 0, 0, 2])));
     Ok(())
 }
 
@@ -285,9 +287,12 @@ fn a_piano(rt: HostRuntime) -> Result<(), Fail> {
         return Ok(());
     };
     let mut pile = sheet.into_pile();
-    assert!(rt; !pile.switch(at(0, [0x7E, 0, 0, 1, 1]), false), "held on");
     assert!(rt;
-        !pile.switch(at(0x7F, [0x7E, 0, 1, 1, 1]), true),
+        !pile.switch(Pair::new(0, [0x7E, 0, 0, 1, 1]), false),
+        "held on"
+    );
+    assert!(rt;
+        !pile.switch(Pair::new(0x7F, [0x7E, 0, 1, 1, 1]), true),
         "held off"
     );
     Ok(())
