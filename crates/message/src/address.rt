@@ -13,10 +13,11 @@ pub struct Address {
 
 impl Address {
     /// The address that a byte says, unless it says none.
-    // No `TryFrom`: its error would only say the byte again, and callers have their own refusals.
+    // An Option and no `TryFrom`: the same fault is another refusal for each caller, so an error would only be thrown away.
     pub fn new(byte: u8) -> Option<Address>
         ensures { MatchOption result (is_address byte ≡ false) (λ a. a.byte ≡ byte) }
     {
+        // `if` and no `then`: its closure would need a `requires` of its own for the fact, and so be no plainer.
         if matches!(byte, 0x00..=0x0F | 0x7E | 0x7F) {
             Some(Address { byte })
         } else {

@@ -3,8 +3,7 @@ ghost use Rattle.std.specs.Prelude.{◌≡◌, ℕ, ◌+◌, ◌*◌, ◌<◌, �
 ghost use Rattle.message.specs.Codes.{code};
 ghost use Rattle.message.specs.Messages.{header, encode};
 ghost use Rattle.message.specs.Sending.{sends};
-ghost use Rattle.message.specs.Pens.{Puts};
-ghost use Rattle.message.specs.Writing.{Written};
+ghost use Rattle.message.specs.Pens.{PutOrNot, Puts};
 
 use crate::address::Address;
 use crate::muid::Muid;
@@ -45,10 +44,9 @@ impl Head {
         first: &[u8],
         second: &[u8],
         pen: &mut Pen<'_>,
-    ) -> Result<usize, Refusal>
+    ) -> Result<(), Refusal>
         requires { length first.now + length second.now ≤ 497 }
-        ensures bytes { Written (encode (sends self.source.number self.address.byte self.sub_id self.destination.number (first.now ++ second.now))) pen.old.out.now pen.old.at result pen.new.out.now }
-        ensures same_buffer { pen.new.out.ghost_name ≡ pen.old.out.ghost_name }
+        ensures { PutOrNot (encode (sends self.source.number self.address.byte self.sub_id self.destination.number (first.now ++ second.now))) pen.old result pen.new }
     {
         if !pen.has_room(15 + first.len() + second.len()) {
             return Err(Refusal::BufferTooSmall);
@@ -57,6 +55,6 @@ impl Head {
         pen.put(first);
         pen.put(second);
         pen.put(&[0xF7]);
-        Ok(pen.at)
+        Ok(())
     }
 }

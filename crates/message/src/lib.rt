@@ -26,7 +26,7 @@ pub use listing::{count_rows, write_profile_reply};
 pub use message::{Content, Message};
 pub use muid::Muid;
 pub use pair::Pair;
-pub use pen::Pen;
+pub use pen::{LONGEST, Pen};
 pub use profile_id::ProfileId;
 pub use reading::{least_length, muid_number, read};
 pub use refusal::Refusal;

@@ -1,6 +1,7 @@
 //! Messages taken apart: each part is lent from the bytes that were read.
 
 /// What a message holds, by its Sub-ID.
+// Slices and no arrays: arrays would ask more of whoever builds a `Message` to have it told in words.
 #[derive(Clone, Copy)]
 pub enum Content<'a> {
     /// The whole body: 11 identity bytes, what is supported, the largest message, and from version 2 on the Output Path Id.
@@ -26,6 +27,7 @@ pub enum Content<'a> {
 }
 
 /// A framed message. The first three fields are below 80h, and the MUIDs have 28 bits.
+// Plain numbers: narrower types would ask more of whoever builds a `Message` to have it told in words.
 #[derive(Clone, Copy)]
 pub struct Message<'a> {
     pub address: u8,

@@ -19,10 +19,11 @@ pub struct Muid {
 
 impl Muid {
     /// The MUID of that number, unless it has more than 28 bits.
-    // No `TryFrom`: its error would only say the number again, and callers have their own refusals.
+    // An Option and no `TryFrom`: the same fault is another refusal for each caller, so an error would only be thrown away.
     pub fn new(number: u32) -> Option<Muid>
         ensures { MatchOption result (0x10000000 ≤ number) (λ m. m.number ≡ number) }
     {
+        // `if` and no `then`: its closure would need a `requires` of its own for the fact, and so be no plainer.
         if number < 0x1000_0000 {
             Some(Muid { number })
         } else {

@@ -4,13 +4,24 @@ ghost use Rattle.message.specs.Pens.{Puts, Room};
 ghost use Rattle.message.specs.Writing.{room_for};
 
 /// The most bytes that a message has.
-pub(crate) const LONGEST: usize = 512;
+pub const LONGEST: usize = 512;
 
 /// A lent buffer, and the place where the next bytes go.
 #[derive(Drop)]
 pub struct Pen<'a> {
     pub out: &'a mut [u8],
     pub at: usize,
+}
+
+impl<'a> Pen<'a> {
+    /// A pen at the front of a buffer.
+    pub fn new(out: &'a mut [u8]) -> Pen<'a>
+        ensures front { result.at ≡ 0 }
+        ensures same { result.out.ghost_name ≡ out.entry.ghost_name }
+        ensures holds { result.out.now ≡ out.old }
+    {
+        Pen { out, at: 0 }
+    }
 }
 
 impl Pen<'_> {

@@ -14,10 +14,11 @@ pub struct ProfileId {
 
 impl ProfileId {
     /// The Profile ID of five bytes, unless one has eight bits.
-    // No `TryFrom`: its error would only say the bytes again, and callers have their own refusals.
+    // An Option and no `TryFrom`: the same fault is another refusal for each caller, so an error would only be thrown away.
     pub fn new(bytes: [u8; 5]) -> Option<ProfileId>
         ensures { MatchOption result (is_id bytes ≡ false) (λ i. i.bytes ≡ bytes) }
     {
+        // `if` and no `then`: its closure would need a `requires` of its own for the fact, and so be no plainer.
         if all_seven_bits(&bytes) {
             Some(ProfileId { bytes })
         } else {

@@ -61,10 +61,7 @@ pub fn least_length(sub: u8, version: u8) -> usize
     ensures value { result ≡ least sub version }
     ensures bound { 15 ≤ result }
 {
-    match SubId::try_from(sub) {
-        Ok(id) => id.least_length(version),
-        Err(_) => 15,
-    }
+    SubId::try_from(sub).map_or(15, |id| id.least_length(version))
 }
 
 /// What a message holds, by its Sub-ID, version and body.

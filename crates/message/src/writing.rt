@@ -1,8 +1,9 @@
 //! Writing messages into what is left of a lent buffer.
-ghost use Rattle.std.specs.Prelude.{◌≡◌, [], ◌∷◌};
+ghost use Rattle.std.specs.Prelude.{◌≡◌};
 ghost use Rattle.message.specs.Codes.{code, status_code};
 ghost use Rattle.message.specs.Messages.{encode};
 ghost use Rattle.message.specs.Sending.{channels, meant};
+ghost use Rattle.message.specs.Pens.{PutOrNot};
 ghost use Rattle.message.specs.Writing.{Written};
 
 use crate::address::Address;
@@ -11,7 +12,7 @@ use crate::muid::Muid;
 use crate::pen::Pen;
 use crate::refusal::Refusal;
 use crate::sent::Sent;
-use crate::sub_id::{NakStatus, SubId};
+use crate::sub_id::SubId;
 
 /// `01 00` at a channel, else `00 00`.
 fn channel_count(address: Address) -> [u8; 2]
@@ -22,13 +23,6 @@ fn channel_count(address: Address) -> [u8; 2]
     } else {
         [0x00, 0x00]
     }
-}
-
-/// What a NAK begins with.
-fn nak_head(sub_id: u8, status: NakStatus) -> [u8; 2]
-    ensures { result ≡ sub_id ∷ status_code status ∷ [] }
-{
-    [sub_id, status.byte()]
 }
 
 impl Sent {
@@ -58,30 +52,38 @@ impl Sent {
             destination,
         }
     }
+
+    /// Writes the message from the own number with a pen, or refuses where it does not fit.
+    pub fn write(self, own: Muid, pen: &mut Pen<'_>) -> Result<(), Refusal>
+        ensures { PutOrNot (encode (meant own.number self)) pen.old result pen.new }
+    {
+        let head = self.head(own);
+        match self {
+            Sent::Discovery { identity } => {
+                let rest = [0x04, 0x00, 0x04, 0x00, 0x00, 0x00];
+                head.write(&identity.bytes, &rest, pen)
+            }
+            Sent::DiscoveryReply { identity, path, .. } => {
+                let rest = [0x04, 0x00, 0x04, 0x00, 0x00, path, identity.block];
+                head.write(&identity.bytes, &rest, pen)
+            }
+            Sent::InvalidateMuid { target } => head.write(&target.bytes(), &[], pen),
+            Sent::Enabled { address, id } | Sent::Disabled { address, id } => {
+                head.write(&id.bytes, &channel_count(address), pen)
+            }
+            Sent::Added { id, .. } | Sent::Removed { id, .. } => head.write(&id.bytes, &[], pen),
+            Sent::Nak { sub_id, status, .. } => {
+                head.write(&[sub_id, status.byte()], &[0; 8], pen)
+            }
+        }
+    }
 }
 
 /// Writes a message from the own number at a place of the buffer and tells where it ends, or refuses where it does not fit.
 pub fn write(sent: Sent, own: Muid, out: &mut [u8], at: usize) -> Result<usize, Refusal>
     ensures { Written (encode (meant own.number sent)) out.old at result out.new }
 {
-    let head = sent.head(own);
     let mut pen = Pen { out, at };
-    match sent {
-        Sent::Discovery { identity } => {
-            let rest = [0x04, 0x00, 0x04, 0x00, 0x00, 0x00];
-            head.write(&identity.bytes, &rest, &mut pen)
-        }
-        Sent::DiscoveryReply { identity, path, .. } => {
-            let rest = [0x04, 0x00, 0x04, 0x00, 0x00, path, identity.block];
-            head.write(&identity.bytes, &rest, &mut pen)
-        }
-        Sent::InvalidateMuid { target } => head.write(&target.bytes(), &[], &mut pen),
-        Sent::Enabled { address, id } | Sent::Disabled { address, id } => {
-            head.write(&id.bytes, &channel_count(address), &mut pen)
-        }
-        Sent::Added { id, .. } | Sent::Removed { id, .. } => head.write(&id.bytes, &[], &mut pen),
-        Sent::Nak { sub_id, status, .. } => {
-            head.write(&nak_head(sub_id, status), &[0; 8], &mut pen)
-        }
-    }
+    sent.write(own, &mut pen)?;
+    Ok(pen.at)
 }
