@@ -22,7 +22,7 @@ pub mod writing;
 pub use address::Address;
 pub use bytes::all_seven_bits;
 pub use identity::Identity;
-pub use listing::{count_rows, write_profile_reply};
+pub use listing::{count_rows, put_profile_reply, write_profile_reply};
 pub use message::{Content, Message};
 pub use muid::Muid;
 pub use pair::Pair;

@@ -4,7 +4,7 @@ ghost use Rattle.std.specs.List.{flat_map};
 ghost use Rattle.message.specs.Messages.{encode};
 ghost use Rattle.message.specs.Rows.{stands, part, rows_of};
 ghost use Rattle.message.specs.Sending.{counted, ids_of, profile_list};
-ghost use Rattle.message.specs.Pens.{Puts, Room};
+ghost use Rattle.message.specs.Pens.{PutOrNot, Puts, Room};
 ghost use Rattle.message.specs.Writing.{Written};
 
 use crate::address::Address;
@@ -90,16 +90,15 @@ pub fn count_rows(rows: &[Row], address: u8, on: bool) -> usize
     Part { rows, address, on }.count()
 }
 
-/// Writes the reply to a listing inquiry at an address, as `write` writes a message.
-pub fn write_profile_reply(
+/// Writes the reply to a listing inquiry at an address with a pen, as a `Sent` is written.
+pub fn put_profile_reply(
     rows: &[Row],
     address: Address,
     own: Muid,
     to: Muid,
-    out: &mut [u8],
-    at: usize,
-) -> Result<usize, Refusal>
-    ensures { Written (encode (profile_list own.number to.number address.byte rows.now)) out.old at result out.new }
+    pen: &mut Pen<'_>,
+) -> Result<(), Refusal>
+    ensures { PutOrNot (encode (profile_list own.number to.number address.byte rows.now)) pen.old result pen.new }
 {
     let on = Part {
         rows,
@@ -111,7 +110,6 @@ pub fn write_profile_reply(
     if on_count > MOST_ROWS || off_count > MOST_ROWS - on_count {
         return Err(Refusal::BufferTooSmall);
     }
-    let mut pen = Pen { out, at };
     if !pen.has_room(19 + 5 * (on_count + off_count)) {
         return Err(Refusal::BufferTooSmall);
     }
@@ -121,9 +119,25 @@ pub fn write_profile_reply(
         source: own,
         destination: to,
     };
-    head.put(&mut pen);
-    on.put(&mut pen);
-    off.put(&mut pen);
+    head.put(pen);
+    on.put(pen);
+    off.put(pen);
     pen.put(&[0xF7]);
+    Ok(())
+}
+
+/// Writes the reply to a listing inquiry at an address, as `write` writes a message.
+pub fn write_profile_reply(
+    rows: &[Row],
+    address: Address,
+    own: Muid,
+    to: Muid,
+    out: &mut [u8],
+    at: usize,
+) -> Result<usize, Refusal>
+    ensures { Written (encode (profile_list own.number to.number address.byte rows.now)) out.old at result out.new }
+{
+    let mut pen = Pen { out, at };
+    put_profile_reply(rows, address, own, to, &mut pen)?;
     Ok(pen.at)
 }
