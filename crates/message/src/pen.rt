@@ -13,17 +13,6 @@ pub struct Pen<'a> {
     pub at: usize,
 }
 
-impl<'a> Pen<'a> {
-    /// A pen at the front of a buffer.
-    pub fn new(out: &'a mut [u8]) -> Pen<'a>
-        ensures front { result.at ≡ 0 }
-        ensures same { result.out.ghost_name ≡ out.entry.ghost_name }
-        ensures holds { result.out.now ≡ out.old }
-    {
-        Pen { out, at: 0 }
-    }
-}
-
 impl Pen<'_> {
     /// Whether a message of so many bytes goes into what is left.
     pub(crate) fn has_room(&self, bytes: usize) -> bool

@@ -1,3 +1,4 @@
+pub mod Codes
 pub mod Asking
 pub mod Inquiring
 pub mod Opening

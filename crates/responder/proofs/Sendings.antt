@@ -1,17 +1,19 @@
 -- What is written to the answer buffer is what is sent.
-use Rattle.std.proofs.Common.{◌≡◌, ℕ, ◌+◌, ◌≤◌, Bool, true, false, List, [], ◌∷◌, ◌++◌, length, take, drop, Ok, Result, sym, refl, ap, ◌∙◌, subst, zero-add, arith}
-use Rattle.std.specs.Result.{result_unwrap_or}
+use Rattle.std.proofs.Common.{◌≡◌, ℕ, ◌+◌, ◌≤◌, Bool, true, false, List, [], ◌∷◌, ◌++◌, length, take, drop, Ok, Err, Result, IsOk, sym, refl, ap, ◌∙◌, subst, zero-add, arith}
+use Rattle.std.specs.Bool.{⊤}
 use Rattle.std.specs.Array.{IsFirstChunk}
 use Rattle.std.proofs.lemmas.List.{take_at, drop_at, length-append, append-nil, take-append-le, drop-append-le, take-append-drop}
-use Rattle.std.proofs.lemmas.Bool.{and_from, le-leb, cond-true}
+use Rattle.std.proofs.lemmas.Bool.{and_from, both_ways, le-leb}
 use Rattle.message.specs.Messages.{Fields, encode}
-use Rattle.message.specs.Writing.{written, room_for, Put, Written}
+use Rattle.message.specs.Writing.{written, room_for, Put}
+use Rattle.message.specs.Pens.{Room, Puts, PutOrNot}
+use Rattle.message.specs.declared.pen.Pen.{Pen}
 use Rattle.message.specs.declared.refusal.Refusal.{Refusal}
 use Rattle.message.specs.Sending.{supports, channels, discover, discover_reply, report, added_report, removed_report, meant}
 use Rattle.message.specs.declared.sent.Sent.{Sent}
 use Rattle.message.specs.declared.sent.Sent.TheVariants.{Discovery, DiscoveryReply, InvalidateMuid, Enabled, Disabled, Added, Removed, Nak}
 use Rattle.message.proofs.Encoding.{length-encode}
-use Rattle.message.proofs.Places.{put_by, and_then, as_bytes}
+use Rattle.message.proofs.Places.{and_then, as_bytes}
 use Rattle.message.proofs.Trips.{identity-sevens, id_sevens}
 use Rattle.responder.specs.Steps.{sent, Outcome, outcome, bytes, Rest, Sends, State, Done}
 use Rattle.responder.specs.Plans.{Plan, send}
@@ -19,11 +21,10 @@ use Rattle.message.specs.declared.row.Row.{Row}
 use Rattle.host.specs.Hosts.{Consents}
 
 -- a message that has room is put
-written-put : (bs before : List ℕ) (at : ℕ) (r : Result ℕ Refusal) (after : List ℕ) → length bs ≤ 512 → at + length bs ≤ length before
-    → Written bs before at r after → (r ≡ Ok (at + length bs)) × Put before at bs (at + length bs) after
-written-put bs before at r after few room w =
-    let f : room_for (length bs) before at ≡ true = and_from _ _ (le-leb (length bs) 512 few) (le-leb (at + length bs) (length before) room) in
-    (w.value ∙ cond-true _ _ _ f, put_by room refl (w.holds ∙ cond-true _ _ _ f))
+pub put_fits : (bs : List ℕ) (p q : Pen) (r : Result ⊤ Refusal) → length bs ≤ 512 → Room bs p → PutOrNot bs p r q → IsOk r × Puts bs p q
+put_fits bs p q (Ok x) few room w = (refl, w.1)
+put_fits bs p q (Err e) few room w =
+    absurd (both_ways (room_for (length bs) p.out.now p.at) w.1 (and_from _ _ (le-leb (length bs) 512 few) (le-leb (p.at + length bs) (length p.out.now) room)))
 
 front-written : (b bs : List ℕ) → take (0 + length bs) (written b 0 bs) ≡ bs
 unfolding written
@@ -74,14 +75,6 @@ length-meant own (Disabled a i) =
 length-meant own (Added a i) = omega (arith, length-encode (added_report own a.byte i.bytes), (id_sevens i).0)
 length-meant own (Removed a i) = omega (arith, length-encode (removed_report own a.byte i.bytes), (id_sevens i).0)
 length-meant own (Nak to a sub status) = omega arith
-
--- where there is room, a message is put and the place that is told is its end
-pub put_or : (bs before : List ℕ) (at end : ℕ) (r : Result ℕ Refusal) (after : List ℕ) → length bs ≤ 512 → at + length bs ≤ length before
-    → Written bs before at r after → end ≡ result_unwrap_or r at → Put before at bs end after
-put_or bs before at end r after few room w e =
-    let a = written-put bs before at r after few room w in
-    let n : end ≡ at + length bs = e ∙ ap (λ (x : Result ℕ Refusal). result_unwrap_or x at) a.0 in
-    rw n a.1
 
 -- the front of a buffer and the rest are the buffer
 pub front_kept : (N : ℕ) (before part : List ℕ) → IsFirstChunk before part N → part ++ drop N before ≡ before

@@ -47,9 +47,9 @@ impl<P: Host> Responder<P> {
         ensures does { Done P.Host.listing P.Host.consents P.Host.fixed P.Host.keeps (announcing self.now.identity (own_of self.now.numbers) (listed_of self.now.numbers) (P.Host.listing self.now.host) (length answer.old)) (state_of self.now) (outcome result answer.new) (state_of self.now) }
         ensures rest { Rest result answer.old answer.new }
     {
-        let Some(room) = answer.first_chunk_mut::<ROOM>() else {
-            return Err(Refusal::BufferTooSmall);
-        };
+        let room = answer
+            .first_chunk_mut::<ROOM>()
+            .ok_or(Refusal::BufferTooSmall)?;
         let identity = self.identity;
         Ok(write_one(Sent::Discovery { identity }, self.own(), room))
     }
@@ -129,9 +129,9 @@ impl<P: Host> Responder<P> {
         ensures rest { Rest result answer.old answer.new }
         ensures same { self.new.identity ≡ self.old.identity }
     {
-        let Some(room) = answer.first_chunk_mut::<ROOM>() else {
-            return Err(Refusal::BufferTooSmall);
-        };
+        let room = answer
+            .first_chunk_mut::<ROOM>()
+            .ok_or(Refusal::BufferTooSmall)?;
         let own = self.own();
         let action = decide(Listing::of(&self.host), own.number, message)?;
         Ok(self.act(action, draw, room))

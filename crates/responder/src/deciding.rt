@@ -14,11 +14,12 @@ ghost use Rattle.responder.specs.Plans.{denying, inquiring, opened, refuse, send
 use crate::action::{Action, Sorted};
 use crate::listing::Listing;
 use message::{
-    Address, Content, Message, Muid, NakStatus, Pair, Refusal, Sent, least_length, muid_number,
-    read,
+    Address, Content, Message, Muid, NakStatus, Pair, Refusal, Sent, SubId, least_length,
+    muid_number, read,
 };
 
 /// Whether a message is heard, and then which, or is an inquiry. One that is heard is refused if of version 0 or too short.
+// A rule of the project: inquiries are told apart by a match on the Sub-ID, with ranges and guards on version and length.
 fn sort(sub: u8, version: u8, bytes: usize) -> Result<Sorted, Refusal>
     requires { 15 ≤ bytes }
     ensures { result ≡ sorted sub version bytes }
@@ -39,9 +40,16 @@ fn sort(sub: u8, version: u8, bytes: usize) -> Result<Sorted, Refusal>
 fn is_for_us(own: u32, destination: u32, sub: u8) -> bool
     ensures { result ≡ for_us_by own destination sub }
 {
-    match sub {
+    match SubId::try_from(sub) {
         _ if destination == own => true,
-        0x24..=0x27 | 0x70 | 0x7E => destination == Muid::broadcast().number,
+        Ok(
+            SubId::ProfileEnabledReport
+            | SubId::ProfileDisabledReport
+            | SubId::ProfileAddedReport
+            | SubId::ProfileRemovedReport
+            | SubId::Discovery
+            | SubId::InvalidateMuid,
+        ) => destination == Muid::broadcast().number,
         _ => false,
     }
 }
@@ -50,7 +58,10 @@ fn is_for_us(own: u32, destination: u32, sub: u8) -> bool
 fn is_supported(sub: u8) -> bool
     ensures { result ≡ has sub supported }
 {
-    matches!(sub, 0x20 | 0x22 | 0x23 | 0x70)
+    matches!(
+        SubId::try_from(sub),
+        Ok(SubId::ProfileInquiry | SubId::SetProfileOn | SubId::SetProfileOff | SubId::Discovery)
+    )
 }
 
 /// The Output Path Id of a Discovery, which version 1 does not have.
@@ -78,7 +89,8 @@ impl Inquiry<'_> {
         ensures { (d : Identity) (own : ℕ) (others : List ℕ) (l : List Row) (draw : ℕ) → decided d own others l draw result ≡ denying d own others l status (header_of self.entry.m self.entry.to.number) }
     {
         let m = self.m;
-        if m.sub_id == 0x70 && m.destination == Muid::broadcast().number {
+        let is_discovery = m.sub_id == SubId::Discovery.byte();
+        if is_discovery && m.destination == Muid::broadcast().number {
             return Err(Refusal::NotUnderstood);
         }
         Ok(Action::Send(Sent::Nak {
@@ -161,8 +173,8 @@ fn invalidated(own: u32, m: Message<'_>) -> Action
 fn clash(sub: u8) -> Result<Action, Refusal>
     ensures { (d : Identity) (own : ℕ) (others : List ℕ) (l : List Row) (draw : ℕ) → decided d own others l draw result ≡ (if nat_eq sub 0x70 || sub == 0x71 then send (invalidate own own ∷ discover d (renewed own others draw) ∷ []) (renewed own others draw) others else refuse Refusal.SourceNotUsable) }
 {
-    match sub {
-        0x70 | 0x71 => Ok(Action::GiveUpNumber),
+    match SubId::try_from(sub) {
+        Ok(SubId::Discovery | SubId::ReplyToDiscovery) => Ok(Action::GiveUpNumber),
         _ => Err(Refusal::SourceNotUsable),
     }
 }

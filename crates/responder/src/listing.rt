@@ -26,7 +26,7 @@ impl<'a> Listing<'a> {
     pub fn has_row(self, address: u8) -> bool
         ensures { result ≡ has_row self.entry.rows.now address }
     {
-        // by an index, as replies go over rows
+        // A rule of the project: replies go over rows by an index.
         for k in 0..self.rows.len() {
             if address == self.rows[k].address {
                 return true;

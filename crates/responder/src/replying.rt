@@ -8,7 +8,7 @@ ghost use Rattle.responder.specs.Steps.{lists_bytes, reply_there};
 
 use crate::calls::ROOM;
 use crate::listing::Listing;
-use message::{Address, Muid, Pen, write_profile_reply};
+use message::{Address, Muid, Pen, put_profile_reply};
 
 /// Replies: of which rows they tell, from whom and to whom.
 #[derive(Clone, Copy)]
@@ -24,10 +24,7 @@ impl Replies<'_> {
         requires { Room (encode (profile_list self.own.number self.to.number address.byte self.listing.rows.now)) pen.old }
         ensures { Puts (encode (profile_list self.entry.own.number self.entry.to.number address.byte self.entry.listing.rows.now)) pen.old pen.new }
     {
-        let out = &mut *pen.out;
-        let rows = self.listing.rows;
-        let end = write_profile_reply(rows, address, self.own, self.to, out, pen.at);
-        pen.at = end.unwrap_or(pen.at);
+        put_profile_reply(self.listing.rows, address, self.own, self.to, pen).unwrap();
     }
 
     /// Puts the reply at an address if it has a row.
@@ -59,9 +56,9 @@ impl Replies<'_> {
         let mut pen = Pen { out: answer, at: 0 };
         if address.byte == 0x7F {
             self.put_every(&mut pen);
-            return pen.at;
+        } else {
+            self.put(address, &mut pen);
         }
-        self.put(address, &mut pen);
         pen.at
     }
 }

@@ -26,9 +26,7 @@ impl Reports<'_, '_> {
     fn has_fallen(self, row: Row) -> bool
         ensures { result ≡ fell self.entry.named.address.byte self.entry.named.id.bytes self.entry.after.rows.now row }
     {
-        let Named { address, id } = self.named;
-        let is_named = address.byte == row.address && id.bytes == row.id;
-        row.on && !is_named && !self.after.is_on(row.pair())
+        row.on && self.named.pair() != row.pair() && !self.after.is_on(row.pair())
     }
 
     /// Puts the Disabled Report of a row if it has fallen.
@@ -37,13 +35,10 @@ impl Reports<'_, '_> {
         requires room { Room (fall_there self.own.number self.named.address.byte self.named.id.bytes self.after.rows.now row) pen.old }
         ensures { Puts (fall_there self.entry.own.number self.entry.named.address.byte self.entry.named.id.bytes self.entry.after.rows.now row) pen.old pen.new }
     {
-        if !self.has_fallen(row) {
-            return;
+        if self.has_fallen(row) {
+            let fallen = Named::new(row.pair()).unwrap();
+            send(fallen.report(false), self.own, pen);
         }
-        let Some(fallen) = Named::new(row.pair()) else {
-            return;
-        };
-        send(fallen.report(false), self.own, pen);
     }
 
     /// Puts a Disabled Report for each row that has fallen, in the listing's order.

@@ -7,15 +7,14 @@ ghost use Rattle.message.specs.Pens.{Puts, Room};
 ghost use Rattle.responder.specs.Steps.{bytes, Sends};
 
 use crate::calls::ROOM;
-use message::{Identity, Muid, Pen, Sent, write};
+use message::{Identity, Muid, Pen, Sent};
 
 /// Puts a message of known length where there is room for it.
 pub(crate) fn send(sent: Sent, own: Muid, pen: &mut Pen<'_>)
     requires { Room (encode (meant own.number sent)) pen.old }
     ensures { Puts (encode (meant own.number sent)) pen.old pen.new }
 {
-    let out = &mut *pen.out;
-    pen.at = write(sent, own, out, pen.at).unwrap_or(pen.at);
+    sent.write(own, pen).unwrap();
 }
 
 /// One message.
