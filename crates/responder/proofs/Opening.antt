@@ -176,9 +176,9 @@ module _ (d : Identity) (own : ℕ) (others : List ℕ) (l : List Row) (draw : �
   unfolding by_sort
   sort_refused e h = sym (ends-by (Err e) h)
 
-  pub reply_noted : Ok Reply ≡ sorted m.sub_id m.version (length bs) → send [] own (noted own m.source others) ≡ ends
+  pub reply_noted : (from : ℕ) → from ≡ m.source → Ok Reply ≡ sorted m.sub_id m.version (length bs) → send [] own (noted own from others) ≡ ends
   unfolding by_sort
-  reply_noted h = ap (λ (n : ℕ). send [] own (noted own n others)) o.shows.source ∙ sym (ends-by (Ok Reply) h)
+  reply_noted from e h = ap (λ (n : ℕ). send [] own (noted own n others)) (e ∙ o.shows.source) ∙ sym (ends-by (Ok Reply) h)
 
   pub only_heard : Ok Heard ≡ sorted m.sub_id m.version (length bs) → send [] own others ≡ ends
   unfolding by_sort

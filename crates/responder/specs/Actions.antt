@@ -31,11 +31,11 @@ module _ (d : Identity) (own : ℕ) (others : List ℕ) (l : List Row) (draw : �
   abbrev pub action_plan : Action → Plan
   action_plan GiveUpNumber = send (invalidate own own ∷ discover d (renewed own others draw) ∷ []) (renewed own others draw) others
   action_plan ChooseNumber = send (discover d (renewed own others draw) ∷ []) (renewed own others draw) others
-  action_plan (Note number) = send [] own (noted own number others)
+  action_plan (Note from) = send [] own (noted own from.number others)
   action_plan (Forget number) = send [] own (forgotten number others)
   action_plan Nothing = send [] own others
   action_plan (Send sent) = send (meant own sent ∷ []) own others
-  action_plan (Discovered from path) = send (discover_reply d own from.number path ∷ []) own (noted own from.number others)
+  action_plan (Discovered to path) = send (discover_reply d own to.number path ∷ []) own (noted own to.number others)
   action_plan (Lists to address) = send (map (λ a. profile_list own to.number a l) (replied_at l address.byte)) own others
   action_plan (Switch named on) = turn named.address.byte named.id.bytes on
 

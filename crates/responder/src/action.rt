@@ -51,15 +51,16 @@ pub enum Action {
     /// The own number was invalidated.
     ChooseNumber,
     /// A device answered a Discovery.
-    Note(u32),
+    Note(Muid),
     /// Another device's number was invalidated.
+    // A plain number: unlisting asks for none in range, so a `Muid` would only add a case that cannot be.
     Forget(u32),
     /// Nothing follows a message that is only heard.
     Nothing,
     /// One message is sent, as the NAK for an inquiry that fails a check.
     Send(Sent),
     /// A device makes itself known.
-    Discovered { from: Muid, path: u8 },
+    Discovered { to: Muid, path: u8 },
     /// A device asks for the profiles at an address.
     List { to: Muid, address: Address },
     /// A device asks to switch a row.

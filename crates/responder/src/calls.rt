@@ -39,7 +39,7 @@ impl<P: Host> Responder<P> {
     fn own(&self) -> Muid
         ensures { result.number ≡ own_of self.now.numbers }
     {
-        Muid::drawn(self.numbers.own())
+        Muid::new(self.numbers.own()).unwrap()
     }
 
     /// Writes a Discovery from the own number, by which other devices learn of this one.
@@ -96,8 +96,8 @@ impl<P: Host> Responder<P> {
                 self.numbers.renew(draw);
                 write_one(Sent::Discovery { identity }, self.own(), answer)
             }
-            Action::Note(number) => {
-                self.numbers.note(number);
+            Action::Note(from) => {
+                self.numbers.note(from.number);
                 0
             }
             Action::Forget(number) => {
@@ -106,13 +106,9 @@ impl<P: Host> Responder<P> {
             }
             Action::Nothing => 0,
             Action::Send(sent) => write_one(sent, own, answer),
-            Action::Discovered { from, path } => {
-                self.numbers.note(from.number);
-                let reply = Sent::DiscoveryReply {
-                    to: from,
-                    identity,
-                    path,
-                };
+            Action::Discovered { to, path } => {
+                self.numbers.note(to.number);
+                let reply = Sent::DiscoveryReply { to, identity, path };
                 write_one(reply, own, answer)
             }
             Action::List { to, address } => {

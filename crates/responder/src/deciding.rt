@@ -122,7 +122,7 @@ impl Inquiry<'_> {
             return self.deny(NakStatus::Malformed);
         }
         Ok(Action::Discovered {
-            from: self.to,
+            to: self.to,
             path: path_of(self.m.version, body),
         })
     }
@@ -193,7 +193,7 @@ pub(crate) fn decide(listing: Listing<'_>, own: u32, message: &[u8]) -> Result<A
     ensures { (d : Identity) (others : List ℕ) (draw : ℕ) → decided d own others listing.entry.rows.now draw result ≡ (if framed message.now then opened d own others listing.entry.rows.now (fields message.now) draw else refuse Refusal.NotFramed) }
 {
     let m = read(message)?;
-    let to = usable_source(m.source)?;
+    let from = usable_source(m.source)?;
     if m.source == own {
         return clash(m.sub_id);
     }
@@ -201,9 +201,14 @@ pub(crate) fn decide(listing: Listing<'_>, own: u32, message: &[u8]) -> Result<A
         return Err(Refusal::NotForUs);
     }
     match sort(m.sub_id, m.version, message.len())? {
-        Sorted::Reply => Ok(Action::Note(m.source)),
+        Sorted::Reply => Ok(Action::Note(from)),
         Sorted::Invalidation => Ok(invalidated(own, m)),
         Sorted::Heard => Ok(Action::Nothing),
-        Sorted::Inquiry => Inquiry { listing, to, m }.decide(),
+        Sorted::Inquiry => Inquiry {
+            listing,
+            to: from,
+            m,
+        }
+        .decide(),
     }
 }
