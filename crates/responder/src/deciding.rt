@@ -2,6 +2,8 @@
 ghost use Rattle.std.specs.Prelude.{◌≡◌, ℕ, ◌<◌, ◌≤◌, true, false, ◌||◌, List, [], ◌∷◌, length, if◌then◌else◌, MatchResult, ◌==◌, nat_eq, nat_le, nat_lt, slice_index};
 ghost use Rattle.message.specs.Messages.{Fields, fields, framed};
 ghost use Rattle.message.specs.Kinds.{too_short};
+ghost use Rattle.message.specs.Reading.{kind_of};
+ghost use Rattle.message.specs.Shapes.{Shaped};
 ghost use Rattle.message.specs.declared.identity.Identity.{Identity};
 ghost use Rattle.message.specs.declared.row.Row.{Row};
 ghost use Rattle.host.specs.Rows.{has as listed};
@@ -78,15 +80,15 @@ fn path_of(version: u8, body: &[u8]) -> u8
 #[derive(Clone, Copy)]
 struct Inquiry<'a> {
     listing: Listing<'a>,
-    to: Muid,
+    from: Muid,
     m: Message<'a>,
-    ghost asker: { to.number ≡ m.source },
+    ghost asker: { from.number ≡ m.source },
 }
 
 impl Inquiry<'_> {
     /// A NAK for an inquiry that fails a check, or a refusal where the inquiry is a Discovery to every device.
     fn deny(self, status: NakStatus) -> Result<Action, Refusal>
-        ensures { (d : Identity) (own : ℕ) (others : List ℕ) (l : List Row) (draw : ℕ) → decided d own others l draw result ≡ denying d own others l status (header_of self.entry.m self.entry.to.number) }
+        ensures { (d : Identity) (own : ℕ) (others : List ℕ) (l : List Row) (draw : ℕ) → decided d own others l draw result ≡ denying d own others l status (header_of self.entry.m self.entry.from.number) }
     {
         let m = self.m;
         let is_discovery = m.sub_id == SubId::Discovery.byte();
@@ -94,7 +96,7 @@ impl Inquiry<'_> {
             return Err(Refusal::NotUnderstood);
         }
         Ok(Action::Send(Sent::Nak {
-            to: self.to,
+            to: self.from,
             address: Address::new(m.address).unwrap_or(Address::function_block()),
             sub_id: m.sub_id,
             status,
@@ -103,11 +105,10 @@ impl Inquiry<'_> {
 
     /// What to do where it asks to switch a row.
     fn switch(self, address: Address, id: &[u8], on: bool) -> Result<Action, Refusal>
-        ensures { (d : Identity) (own : ℕ) (others : List ℕ) (draw : ℕ) → length id.now ≡ 5 → decided d own others self.entry.listing.rows.now draw result ≡ (if listed self.entry.listing.rows.now address.byte id.now then turn address.byte id.now on else denying d own others self.entry.listing.rows.now NakStatus.NoSuchProfile (header_of self.entry.m self.entry.to.number)) }
+        requires { length id.now ≡ 5 }
+        ensures { (d : Identity) (own : ℕ) (others : List ℕ) (draw : ℕ) → decided d own others self.entry.listing.rows.now draw result ≡ (if listed self.entry.listing.rows.now address.byte id.now then turn address.byte id.now on else denying d own others self.entry.listing.rows.now NakStatus.NoSuchProfile (header_of self.entry.m self.entry.from.number)) }
     {
-        let Ok(id) = <[u8; 5]>::try_from(id) else {
-            return self.deny(NakStatus::Malformed);
-        };
+        let id = <[u8; 5]>::try_from(id).unwrap();
         match self.listing.find(Pair::new(address.byte, id)) {
             Some(named) => Ok(Action::Switch { named, on }),
             None => self.deny(NakStatus::NoSuchProfile),
@@ -116,19 +117,20 @@ impl Inquiry<'_> {
 
     /// What to do where it is a Discovery, which is for the whole device.
     fn discovered(self, body: &[u8]) -> Result<Action, Refusal>
-        ensures { (d : Identity) (own : ℕ) (others : List ℕ) (l : List Row) (draw : ℕ) → decided d own others l draw result ≡ (if nat_eq self.entry.m.address 0x7F then send (discover_reply d own self.entry.to.number (if nat_le self.entry.m.version 1 then 0x00 else slice_index body.now 16) ∷ []) own (noted own self.entry.to.number others) else denying d own others l NakStatus.Malformed (header_of self.entry.m self.entry.to.number)) }
+        ensures { (d : Identity) (own : ℕ) (others : List ℕ) (l : List Row) (draw : ℕ) → decided d own others l draw result ≡ (if nat_eq self.entry.m.address 0x7F then send (discover_reply d own self.entry.from.number (if nat_le self.entry.m.version 1 then 0x00 else slice_index body.now 16) ∷ []) own (noted own self.entry.from.number others) else denying d own others l NakStatus.Malformed (header_of self.entry.m self.entry.from.number)) }
     {
         if self.m.address != 0x7F {
             return self.deny(NakStatus::Malformed);
         }
         Ok(Action::Discovered {
-            to: self.to,
+            to: self.from,
             path: path_of(self.m.version, body),
         })
     }
 
     /// What to do with it.
     fn decide(self) -> Result<Action, Refusal>
+        requires { Shaped (kind_of self.m.content) }
         ensures { (d : Identity) (own : ℕ) (others : List ℕ) (draw : ℕ) (q : Fields) → Shows self.entry.m q → decided d own others self.entry.listing.rows.now draw result ≡ inquiring d own others self.entry.listing.rows.now (fault self.entry.listing.rows.now q) q }
     {
         let m = self.m;
@@ -143,7 +145,7 @@ impl Inquiry<'_> {
         };
         match m.content {
             Content::ProfileInquiry => Ok(Action::List {
-                to: self.to,
+                to: self.from,
                 address,
             }),
             Content::SetOn(id) => self.switch(address, id, true),
@@ -158,6 +160,7 @@ impl Inquiry<'_> {
 fn invalidated(own: u32, m: Message<'_>) -> Action
     ensures { (d : Identity) (others : List ℕ) (l : List Row) (draw : ℕ) (q : Fields) → Shows m.entry q → q.sub ≡ 0x7E → (q.version == 0) ≡ false → too_short q ≡ false → action_plan d own others l draw result ≡ (if nat_eq (target q) own then send (discover d (renewed own others draw) ∷ []) (renewed own others draw) others else send [] own (forgotten (target q) others)) }
 {
+    // The `else` cannot be: to have that proved would make `requires` of the three facts that come before the plan.
     let Content::InvalidateMuid([a, b, c, d]) = m.content else {
         return Action::Nothing;
     };
@@ -204,11 +207,6 @@ pub(crate) fn decide(listing: Listing<'_>, own: u32, message: &[u8]) -> Result<A
         Sorted::Reply => Ok(Action::Note(from)),
         Sorted::Invalidation => Ok(invalidated(own, m)),
         Sorted::Heard => Ok(Action::Nothing),
-        Sorted::Inquiry => Inquiry {
-            listing,
-            to: from,
-            m,
-        }
-        .decide(),
+        Sorted::Inquiry => Inquiry { listing, from, m }.decide(),
     }
 }

@@ -64,3 +64,6 @@ returns-in-Inquiry c =
     λ d others draw.
     let o = ours_read c.args.own c.in_ok-m.m c.args.message.now c.in_ok-m.ensures.value c.in_ok-m.ensures.shape c.in_ok-from.ensures.1 c.if-m-own.false c.if-not-is_for_us.ensures in
     inquired d c.args.own others c.args.listing.rows.now draw c.in_ok-m.m c.args.message.now o _ (ap Ok (sym c.in-Inquiry.is) ∙ c.in_ok-sort.ensures) (c.decide.ensures d c.args.own others draw (fields c.args.message.now) o.shows)
+
+pub decide-requires : goal.decide-requires
+decide-requires c = c.in_ok-m.ensures.shape.parts
