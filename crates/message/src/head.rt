@@ -39,12 +39,7 @@ impl Head {
     }
 
     /// Writes the message whose body has these two parts.
-    pub(crate) fn write(
-        self,
-        first: &[u8],
-        second: &[u8],
-        pen: &mut Pen<'_>,
-    ) -> Result<(), Refusal>
+    pub(crate) fn write(self, first: &[u8], second: &[u8], pen: &mut Pen<'_>) -> Result<(), Refusal>
         requires { length first.now + length second.now ≤ 497 }
         ensures { PutOrNot (encode (sends self.source.number self.address.byte self.sub_id self.destination.number (first.now ++ second.now))) pen.old result pen.new }
     {

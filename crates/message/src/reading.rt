@@ -80,15 +80,14 @@ fn content(sub: u8, version: u8, body: &[u8]) -> Content<'_>
         SubId::ReplyToProfileInquiry => two_lists(body).unwrap_or(Content::Other),
         SubId::SetProfileOn => Content::SetOn(&body[0..5]),
         SubId::SetProfileOff => Content::SetOff(&body[0..5]),
-        SubId::ProfileEnabledReport if body.len() >= 5 => Content::Enabled(&body[0..5]),
-        SubId::ProfileDisabledReport if body.len() >= 5 => Content::Disabled(&body[0..5]),
-        SubId::ProfileAddedReport if body.len() >= 5 => Content::Added(&body[0..5]),
-        SubId::ProfileRemovedReport if body.len() >= 5 => Content::Removed(&body[0..5]),
+        SubId::ProfileEnabledReport => body.get(0..5).map_or(Content::Other, Content::Enabled),
+        SubId::ProfileDisabledReport => body.get(0..5).map_or(Content::Other, Content::Disabled),
+        SubId::ProfileAddedReport => body.get(0..5).map_or(Content::Other, Content::Added),
+        SubId::ProfileRemovedReport => body.get(0..5).map_or(Content::Other, Content::Removed),
         SubId::Discovery => Content::Discovery(body),
         SubId::ReplyToDiscovery => Content::DiscoveryReply(body),
         SubId::InvalidateMuid => Content::InvalidateMuid(&body[0..4]),
         SubId::Nak => Content::Nak(body),
-        _ => Content::Other,
     }
 }
 

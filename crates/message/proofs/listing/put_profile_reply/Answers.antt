@@ -11,10 +11,12 @@ pub returns : goal.returns
 returns c =
     let rows = c.args.rows.now in
     let a = c.args.address.byte in
-    let m = profile_list c.args.own.number c.args.to.number a rows in
-    (omega (arith, length-encode m, length-append (counted (part a true rows)) (counted (part a false rows)), c.count-on_count.ensures.ids, c.count-off_count.ensures.ids), record {
-      put =
-          as_bytes (whole_parts SubId.ReplyToProfileInquiry a c.args.own.number c.args.to.number (counted (part a true rows)) (counted (part a false rows)))
-          (and_then c.put.ensures.put (and_then c.put-2.ensures.put (and_then c.put-3.ensures.put c.put-4.ensures.put)));
-      same = search rules;
-    })
+    let m = profile_list c.args.own.number c.args.to.number a rows in (
+      omega (arith, length-encode m, length-append (counted (part a true rows)) (counted (part a false rows)), c.count-on_count.ensures.ids, c.count-off_count.ensures.ids),
+      record {
+        put =
+            as_bytes (whole_parts SubId.ReplyToProfileInquiry a c.args.own.number c.args.to.number (counted (part a true rows)) (counted (part a false rows)))
+            (and_then c.put.ensures.put (and_then c.put-2.ensures.put (and_then c.put-3.ensures.put c.put-4.ensures.put)));
+        same = search rules;
+      },
+    )

@@ -9,10 +9,12 @@ pub returns : goal.returns
 returns c =
     let first = c.args.first.now in
     let second = c.args.second.now in
-    let m = sends c.args.self.source.number c.args.self.address.byte c.args.self.sub_id c.args.self.destination.number (first ++ second) in
-    (omega (arith, length-encode m, length-append first second), record {
-      put =
-          as_bytes (whole_parts c.args.self.sub_id c.args.self.address.byte c.args.self.source.number c.args.self.destination.number first second)
-          (and_then c.put.ensures.put (and_then c.put-2.ensures.put (and_then c.put-3.ensures.put c.put-4.ensures.put)));
-      same = search rules;
-    })
+    let m = sends c.args.self.source.number c.args.self.address.byte c.args.self.sub_id c.args.self.destination.number (first ++ second) in (
+      omega (arith, length-encode m, length-append first second),
+      record {
+        put =
+            as_bytes (whole_parts c.args.self.sub_id c.args.self.address.byte c.args.self.source.number c.args.self.destination.number first second)
+            (and_then c.put.ensures.put (and_then c.put-2.ensures.put (and_then c.put-3.ensures.put c.put-4.ensures.put)));
+        same = search rules;
+      },
+    )
