@@ -127,6 +127,7 @@ pub fn put_profile_reply(
 }
 
 /// Writes the reply to a listing inquiry at an address, as `write` writes a message.
+// A buffer and a place are a promise to callers, so they stay: `put_profile_reply` takes a pen.
 pub fn write_profile_reply(
     rows: &[Row],
     address: Address,

@@ -5,6 +5,7 @@ ghost use Rattle.message.specs.Messages.{muid};
 use std::fmt;
 
 /// How many numbers a device may have: 0 to 268,435,199. The next 255 are reserved.
+// `numbers` has it too: it stands on `rising` alone, and one more dependency would be no plainer.
 const USABLE: u32 = 268_435_200;
 
 /// The number that means every device.

@@ -27,6 +27,7 @@ impl ProfileId {
     }
 }
 
+// Callers may print it, so it stays, though programs here print the bytes of messages, which are no `ProfileId`s.
 impl fmt::Display for ProfileId {
     fn fmt<W: fmt::Write>(&self, f: &mut fmt::Formatter<W>) -> fmt::Result {
         let [a, b, c, d, e] = self.bytes;

@@ -24,6 +24,7 @@ impl Row {
     }
 
     /// What names the row.
+    // No `From` for `Pair`: `Pair::from(row)` is no plainer than `row.pair()`.
     pub fn pair(self) -> Pair
         ensures { result ≡ pair_of self }
     {

@@ -6,6 +6,7 @@ use crate::profile_id::ProfileId;
 use crate::sub_id::NakStatus;
 
 /// A message to send.
+// `address` and `id` stand apart: a type of both would change how callers write these cases.
 #[derive(Clone, Copy)]
 pub enum Sent {
     /// To every device, with Output Path Id 00h.

@@ -80,6 +80,7 @@ impl Sent {
 }
 
 /// Writes a message from the own number at a place of the buffer and tells where it ends, or refuses where it does not fit.
+// A buffer and a place are a promise to callers, so they stay: `Sent::write` takes a pen.
 pub fn write(sent: Sent, own: Muid, out: &mut [u8], at: usize) -> Result<usize, Refusal>
     ensures { Written (encode (meant own.number sent)) out.old at result out.new }
 {

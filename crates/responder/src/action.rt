@@ -14,6 +14,7 @@ pub struct Named {
 
 impl Named {
     /// The row that a pair names, unless the pair is out of range.
+    // An Option and no `TryFrom`: an error would only be thrown away.
     pub fn new(pair: Pair) -> Option<Named>
         ensures { MatchOption result (pair_ranged pair ≡ false) (λ n. (n.address.byte ≡ pair.address) × (n.id.bytes ≡ pair.id)) }
     {
@@ -24,6 +25,7 @@ impl Named {
     }
 
     /// What names it.
+    // No `From` for `Pair`: `Pair::from(named)` is no plainer than `named.pair()`.
     pub fn pair(self) -> Pair
         ensures { result ≡ paired self.address.byte self.id.bytes }
     {
@@ -56,6 +58,7 @@ pub enum Action {
     // A plain number: unlisting asks for none in range, so a `Muid` would only add a case that cannot be.
     Forget(u32),
     /// Nothing follows a message that is only heard.
+    // A case and no Option around actions: `act` would only match twice.
     Nothing,
     /// One message is sent, as the NAK for an inquiry that fails a check.
     Send(Sent),
@@ -68,6 +71,7 @@ pub enum Action {
 }
 
 /// How a message for us is sorted, before what it asks.
+// A rule of the project: `sort` tells messages apart, and this is what it tells.
 #[derive(Clone, Copy)]
 pub enum Sorted {
     /// A reply to a Discovery.

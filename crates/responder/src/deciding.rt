@@ -192,6 +192,7 @@ fn usable_source(number: u32) -> Result<Muid, Refusal>
 }
 
 /// What to do with a message, or why it is refused.
+// The own number is a plain one, since it is only compared with those of messages.
 pub(crate) fn decide(listing: Listing<'_>, own: u32, message: &[u8]) -> Result<Action, Refusal>
     ensures { (d : Identity) (others : List ℕ) (draw : ℕ) → decided d own others listing.entry.rows.now draw result ≡ (if framed message.now then opened d own others listing.entry.rows.now (fields message.now) draw else refuse Refusal.NotFramed) }
 {

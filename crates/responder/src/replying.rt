@@ -42,6 +42,7 @@ impl Replies<'_> {
         requires { Room (lists_bytes self.own.number self.to.number self.listing.rows.now 0x7F) pen.old }
         ensures { Puts (lists_bytes self.entry.own.number self.entry.to.number self.entry.listing.rows.now 0x7F) pen.old pen.new }
     {
+        // By their bytes, since the channels are counted: names for the last two would be no plainer.
         for channel in 0..16u8 {
             self.put_if_any(Address { byte: channel }, pen);
         }
