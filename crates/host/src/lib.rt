@@ -12,7 +12,7 @@ pub mod table;
 pub use finding::find_row;
 pub use fixed::Fixed;
 pub use host::Host;
-pub use rows::count_at;
+pub use rows::{MOST_AT_ONE, MOST_ROWS, count_at};
 pub use table::Table;
 
 #[cfg(test)]
@@ -144,17 +144,13 @@ mod tests {
     #[test]
     fn fixed_changes_nothing(rt: HostRuntime) {
         let rows = [row(0, 1, false), row(0, 2, true)];
-        match Fixed::from_rows(&rows) {
-            Ok(mut host) => {
-                assert!(rt; host.is_fixed() && !host.may_go_on(rows[0].pair()));
-                assert!(rt;
-                    !host.switch(rows[0].pair(), true) && !host.switch(rows[1].pair(), false)
-                );
-                assert!(rt; !host.plug(Pair::new(0, PIANO)) && !host.pull(rows[0].pair()));
-                assert_eq!(rt; host.rows().len(), 2);
-                assert!(rt; !host.rows()[0].on && host.rows()[1].on);
-            }
-            Err(_) => assert!(rt; false, "refused"),
-        }
+        let mut host = Fixed::from_rows(&rows).expect(&rt, "two rows");
+        assert!(rt; host.is_fixed() && !host.may_go_on(rows[0].pair()));
+        assert!(rt;
+            !host.switch(rows[0].pair(), true) && !host.switch(rows[1].pair(), false)
+        );
+        assert!(rt; !host.plug(Pair::new(0, PIANO)) && !host.pull(rows[0].pair()));
+        assert_eq!(rt; host.rows().len(), 2);
+        assert!(rt; !host.rows()[0].on && host.rows()[1].on);
     }
 }
