@@ -1,7 +1,7 @@
 //! Rows in a fixed table, and what is asked of rows.
-ghost use Rattle.std.specs.Prelude.{◌≡◌, ◌<◌, ◌≤◌, false, ◌&&◌, length, Some, None, MatchResult, nat_lt};
+ghost use Rattle.std.specs.Prelude.{◌≡◌, ◌<◌, ◌≤◌, false, ◌&&◌, length, Some, None, MatchResult};
 ghost use Rattle.rising.specs.Lists.{Rising, entering};
-ghost use Rattle.message.specs.Rows.{all_ranged, ranged, row_key};
+ghost use Rattle.message.specs.Rows.{all_ranged, row_key};
 ghost use Rattle.host.specs.Rows.{row, tally, without_row};
 ghost use Rattle.host.specs.Hosts.{plugs};
 ghost use Rattle.host.specs.Making.{crowded, disordered, fault};
