@@ -44,7 +44,8 @@ pub fn count_at(rows: &[Row], address: u8) -> usize
 fn is_crowded(rows: &[Row]) -> bool
     ensures { result ≡ crowded rows.now }
 {
-    rows.iter().any(|row| count_at(rows, row.address) > MOST_AT_ONE)
+    rows.iter()
+        .any(|row| count_at(rows, row.address) > MOST_AT_ONE)
 }
 
 /// Whether rows are too many or out of order.
@@ -55,6 +56,8 @@ fn is_disordered(rows: &[Row]) -> bool
 }
 
 /// Refuses rows of which no host can be made.
+// Not one function with that of the layers: only two calls would be shared, since rows have another limit and are counted at
+// each address.
 fn judge(rows: &[Row]) -> Result<(), Refusal>
     ensures { MatchResult result (λ _. fault rows.now ≡ None) (λ e. fault rows.now ≡ Some e) }
 {

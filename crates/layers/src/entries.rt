@@ -50,7 +50,7 @@ fn all_in_range<T: Ranged + Copy>(list: &[T]) -> bool
 }
 
 // Refuses entries of which one is out of range, and else entries that do not rise strictly or are more than 16.
-// Not one function with the host's: that has another limit, and counts the rows at each address, so two lines would be shared.
+// Not one function with the host's: only two calls would be shared, since rows have another limit and are counted at each address.
 fn judge<T: Keyed + Ranged + Copy>(list: &[T]) -> Result<(), Refusal>
     ensures { result ≡ judged_entries T.ranged T.key list.now }
 {

@@ -7,7 +7,8 @@ use host::Host;
 use message::{Pair, Row};
 
 /// The states of the three, and the rows that show them.
-// Both, as rows are lent and have to be somewhere, and rows alone would not say that they are of these three.
+// Both, as rows are lent and have to be somewhere, and rows alone would not say that they are of these three. No list of
+// states, as the first one's on moves the third.
 #[derive(Drop)]
 pub struct Desk {
     first: bool,
