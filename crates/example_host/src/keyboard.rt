@@ -1,6 +1,6 @@
 //! A keyboard with a piano and an organ on Channel 1, of which one plays at a time.
 ghost use Rattle.std.specs.Prelude.{◌≡◌, true};
-ghost use Rattle.example_host.specs.Keyboards.{sound_at, plays, shown, one_at_a_time};
+ghost use Rattle.example_host.specs.Keyboards.{sound_at, shown, one_at_a_time};
 ghost use Rattle.example_host.specs.Lawfulness.{keyboard_lawful};
 
 use host::Host;
@@ -20,6 +20,7 @@ pub const PIANO: [u8; 5] = [0x7D, 0, 0, 1, 0];
 pub const ORGAN: [u8; 5] = [0x7D, 0, 0, 2, 0];
 
 /// The keyboard, with its rows at hand for whoever asks.
+// Both what plays and the rows that show it: rows are lent, so they have to be somewhere, and a ghost field says that they agree.
 #[derive(Drop)]
 pub struct Keyboard {
     playing: Option<Sound>,
@@ -43,12 +44,6 @@ fn sound_at(pair: Pair) -> Option<Sound>
     }
 }
 
-fn is_playing(playing: Option<Sound>, sound: Sound) -> bool
-    ensures { result ≡ plays playing sound }
-{
-    playing == Some(sound)
-}
-
 impl Keyboard {
     /// A keyboard on which that sound plays, or none.
     pub fn new(playing: Option<Sound>) -> Keyboard
@@ -57,12 +52,12 @@ impl Keyboard {
         let piano = Row {
             address: 0,
             id: PIANO,
-            on: is_playing(playing, Sound::Piano),
+            on: playing == Some(Sound::Piano),
         };
         let organ = Row {
             address: 0,
             id: ORGAN,
-            on: is_playing(playing, Sound::Organ),
+            on: playing == Some(Sound::Organ),
         };
         Keyboard {
             playing,
@@ -110,7 +105,7 @@ impl Host for Keyboard {
 
     fn switch(&mut self, pair: Pair, on: bool) -> bool {
         match sound_at(pair) {
-            Some(sound) if is_playing(self.playing, sound) != on => {
+            Some(sound) if (self.playing == Some(sound)) != on => {
                 *self = Keyboard::new(on.then_some(sound));
                 true
             }

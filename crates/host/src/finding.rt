@@ -11,6 +11,7 @@ use message::{Pair, Row};
 use rising::find;
 
 /// The place of the row that a pair names among rows that rise, as those of a listing do.
+// By a rule the answer is an Option of an index. One more function for the state there would be no shorter for those who ask.
 pub fn find_row(rows: &[Row], pair: Pair) -> Option<usize>
     ensures within { Within result rows.now }
     ensures listed { Rising row_key rows.now → is_some result ≡ has rows.now pair.address pair.id }

@@ -12,7 +12,7 @@ pub mod table;
 pub use finding::find_row;
 pub use fixed::Fixed;
 pub use host::Host;
-pub use rows::count_at;
+pub use rows::{MOST_AT_ONE, MOST_ROWS, count_at};
 pub use table::Table;
 
 #[cfg(test)]
@@ -89,8 +89,8 @@ mod tests {
     // As many rows at each address as may stand there, and one more than a listing has.
     fn many() -> [Row; 65] {
         let mut rows = [row(0, 0, false); 65];
-        for (k, slot) in rows.iter_mut().enumerate() {
-            *slot = row((k / 21) as u8, (k % 21) as u8, k % 2 == 0);
+        for (k, slot) in (0u8..).zip(rows.iter_mut()) {
+            *slot = row(k / 21, k % 21, k % 2 == 0);
         }
         rows
     }
@@ -144,17 +144,11 @@ mod tests {
     #[test]
     fn fixed_changes_nothing(rt: HostRuntime) {
         let rows = [row(0, 1, false), row(0, 2, true)];
-        match Fixed::from_rows(&rows) {
-            Ok(mut host) => {
-                assert!(rt; host.is_fixed() && !host.may_go_on(rows[0].pair()));
-                assert!(rt;
-                    !host.switch(rows[0].pair(), true) && !host.switch(rows[1].pair(), false)
-                );
-                assert!(rt; !host.plug(Pair::new(0, PIANO)) && !host.pull(rows[0].pair()));
-                assert_eq!(rt; host.rows().len(), 2);
-                assert!(rt; !host.rows()[0].on && host.rows()[1].on);
-            }
-            Err(_) => assert!(rt; false, "refused"),
-        }
+        let mut host = Fixed::from_rows(&rows).expect(&rt, "two rows");
+        assert!(rt; host.is_fixed() && !host.may_go_on(rows[0].pair()));
+        assert!(rt; !host.switch(rows[0].pair(), true) && !host.switch(rows[1].pair(), false));
+        assert!(rt; !host.plug(Pair::new(0, PIANO)) && !host.pull(rows[0].pair()));
+        assert_eq!(rt; host.rows().len(), 2);
+        assert!(rt; !host.rows()[0].on && host.rows()[1].on);
     }
 }

@@ -1,7 +1,7 @@
 //! Rows in a fixed table, and what is asked of rows.
-ghost use Rattle.std.specs.Prelude.{◌≡◌, ◌<◌, ◌≤◌, false, ◌&&◌, length, Some, None, MatchResult, nat_lt};
+ghost use Rattle.std.specs.Prelude.{◌≡◌, ◌<◌, ◌≤◌, false, ◌&&◌, length, Some, None, MatchResult};
 ghost use Rattle.rising.specs.Lists.{Rising, entering};
-ghost use Rattle.message.specs.Rows.{all_ranged, ranged, row_key};
+ghost use Rattle.message.specs.Rows.{all_ranged, row_key};
 ghost use Rattle.host.specs.Rows.{row, tally, without_row};
 ghost use Rattle.host.specs.Hosts.{plugs};
 ghost use Rattle.host.specs.Making.{crowded, disordered, fault};
@@ -12,31 +12,24 @@ use message::{Pair, Refusal, Row};
 use rising::{enter, remove, rises};
 
 /// The most rows of a listing.
-const MOST: usize = 64;
+pub const MOST_ROWS: usize = 64;
 
 /// The most rows at one address.
-const MOST_AT_ONE: usize = 21;
+pub const MOST_AT_ONE: usize = 21;
 
 /// Up to 64 rows: the first `count` slots are in use.
-// fixed memory: firmware has no heap
+// Two rules: fixed memory, as firmware has no heap; and a plain inner struct, which lends one row to have its state turned.
 #[derive(Drop)]
 pub struct Rows {
-    pub slots: [Row; 64],
+    pub slots: [Row; MOST_ROWS],
     pub count: usize,
-}
-
-/// Whether a row is in range.
-fn is_in_range(row: Row) -> bool
-    ensures { result ≡ ranged row.address row.id }
-{
-    row.pair().in_range()
 }
 
 /// Whether every row is in range.
 fn all_in_range(rows: &[Row]) -> bool
     ensures { result ≡ all_ranged rows.now }
 {
-    rows.iter().all(|row| is_in_range(*row))
+    rows.iter().all(|row| row.pair().in_range())
 }
 
 /// How many rows stand at an address.
@@ -47,28 +40,24 @@ pub fn count_at(rows: &[Row], address: u8) -> usize
     rows.iter().filter(|row| address == row.address).count()
 }
 
-/// Whether more than 21 rows stand at an address.
-fn too_many_at(rows: &[Row], address: u8) -> bool
-    ensures { result ≡ nat_lt 21 (tally address rows.now) }
-{
-    count_at(rows, address) > MOST_AT_ONE
-}
-
 /// Whether more than 21 rows stand at the address of one of them.
 fn is_crowded(rows: &[Row]) -> bool
     ensures { result ≡ crowded rows.now }
 {
-    rows.iter().any(|row| too_many_at(rows, row.address))
+    rows.iter()
+        .any(|row| count_at(rows, row.address) > MOST_AT_ONE)
 }
 
 /// Whether rows are too many or out of order.
 fn is_disordered(rows: &[Row]) -> bool
     ensures { result ≡ disordered rows.now }
 {
-    rows.len() > MOST || !rises(rows) || is_crowded(rows)
+    rows.len() > MOST_ROWS || !rises(rows) || is_crowded(rows)
 }
 
 /// Refuses rows of which no host can be made.
+// Not one function with that of the layers: only two calls would be shared, since rows have another limit and are counted at
+// each address.
 fn judge(rows: &[Row]) -> Result<(), Refusal>
     ensures { MatchResult result (λ _. fault rows.now ≡ None) (λ e. fault rows.now ≡ Some e) }
 {
@@ -81,13 +70,6 @@ fn judge(rows: &[Row]) -> Result<(), Refusal>
     Ok(())
 }
 
-/// Whether there is room for one more row, with so many in all and so many at its address.
-fn has_room(count: usize, here: usize) -> bool
-    ensures { result ≡ (nat_lt count 64 && nat_lt here 21) }
-{
-    count < MOST && here < MOST_AT_ONE
-}
-
 /// Whether a row may enter these, which rise.
 pub(crate) fn fits_in(rows: &[Row], pair: Pair) -> bool
     requires { Rising row_key rows.now }
@@ -95,7 +77,8 @@ pub(crate) fn fits_in(rows: &[Row], pair: Pair) -> bool
 {
     pair.in_range()
         && find_row(rows, pair).is_none()
-        && has_room(rows.len(), count_at(rows, pair.address))
+        && rows.len() < MOST_ROWS
+        && count_at(rows, pair.address) < MOST_AT_ONE
 }
 
 impl Rows {
@@ -105,7 +88,7 @@ impl Rows {
         ensures whole { length result.slots ≡ 64 }
     {
         Rows {
-            slots: [Row::default(); 64],
+            slots: [Row::default(); MOST_ROWS],
             count: 0,
         }
     }
@@ -115,7 +98,7 @@ impl Rows {
         ensures { MatchResult result (λ t. (fault rows.now ≡ None) × (listed t ≡ rows.now) × (t.count ≤ 64) × (length t.slots ≡ 64)) (λ e. fault rows.now ≡ Some e) }
     {
         judge(rows)?;
-        let mut slots = [Row::default(); 64];
+        let mut slots = [Row::default(); MOST_ROWS];
         slots[0..rows.len()].copy_from_slice(rows);
         Ok(Rows {
             slots,

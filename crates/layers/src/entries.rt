@@ -9,8 +9,8 @@ use message::{Pair, Refusal};
 use rising::{Keyed, rises};
 use std::alloc::AllocError;
 
-// The most entries that a layer's list has.
-const MOST: usize = 16;
+/// The most entries of a layer's list.
+pub const MOST_ENTRIES: usize = 16;
 
 /// An entry that may be out of range.
 pub trait Ranged {
@@ -30,9 +30,10 @@ impl Ranged for Pair {
 }
 
 /// Up to 16 entries, in range and rising by their keys.
+// A rule: no heap. Not one type with the slots of a sheet's draft: this list always rises, is in range, and is copied.
 #[derive(Copy)]
 pub struct Entries<T: Keyed + Ranged + Copy> {
-    slots: [T; 16],
+    slots: [T; MOST_ENTRIES],
     count: usize,
     ghost within: { count ≤ 16 },
     ghost whole: { length slots ≡ 16 },
@@ -41,6 +42,7 @@ pub struct Entries<T: Keyed + Ranged + Copy> {
 }
 
 // Whether every entry is in range.
+// Not in the line of `judge`: there `search` did not prove `returns` through the chain.
 fn all_in_range<T: Ranged + Copy>(list: &[T]) -> bool
     ensures { result ≡ list_all T.ranged list.now }
 {
@@ -48,13 +50,14 @@ fn all_in_range<T: Ranged + Copy>(list: &[T]) -> bool
 }
 
 // Refuses entries of which one is out of range, and else entries that do not rise strictly or are more than 16.
+// Not one function with the host's: only two calls would be shared, since rows have another limit and are counted at each address.
 fn judge<T: Keyed + Ranged + Copy>(list: &[T]) -> Result<(), Refusal>
     ensures { result ≡ judged_entries T.ranged T.key list.now }
 {
     if !all_in_range(list) {
         return Err(Refusal::FieldOutOfRange);
     }
-    if list.len() > MOST || !rises(list) {
+    if list.len() > MOST_ENTRIES || !rises(list) {
         return Err(Refusal::NotRising);
     }
     Ok(())
@@ -66,7 +69,7 @@ impl<T: Keyed + Ranged + Copy + Default> Entries<T> {
         ensures { Made (λ e. take e.count e.slots) list.now (judged_entries T.ranged T.key list.now) result }
     {
         judge(list)?;
-        let mut slots = [T::default(); 16];
+        let mut slots = [T::default(); MOST_ENTRIES];
         slots[..list.len()].copy_from_slice(list);
         Ok(Entries {
             slots,
@@ -87,6 +90,7 @@ impl<T: Keyed + Ranged + Copy> Entries<T> {
     }
 }
 
+// By hand: a derive is refused over ghost fields.
 impl<T: Keyed + Ranged + Copy> Clone for Entries<T> {
     ghost is_clone = { λ x y. y ≡ x };
 

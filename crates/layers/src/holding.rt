@@ -1,8 +1,7 @@
 //! A layer that withholds consents.
-ghost use Rattle.std.specs.Prelude.{◌≡◌, false, refl};
+ghost use Rattle.std.specs.Prelude.{◌≡◌, refl};
 ghost use Rattle.std.proofs.Common.{◌∙◌};
-ghost use Rattle.host.specs.Hosts.{Switched};
-ghost use Rattle.layers.specs.Holding.{held, withheld};
+ghost use Rattle.layers.specs.Holding.{held};
 ghost use Rattle.layers.specs.Lawfulness.{held_lawful};
 ghost use Rattle.layers.specs.Models.{pairs_of};
 
@@ -31,17 +30,6 @@ impl<B> Holding<B> {
         ensures { result.now ≡ self.now.below }
     {
         &self.below
-    }
-}
-
-impl<B: Host> Holding<B> {
-    // A switch below is the layer's, where the row is not among the pairs.
-    fn pass_switch(&mut self, pair: Pair, on: bool) -> bool
-        requires { withheld (pairs_of self.old.pairs) pair.address pair.id ≡ false }
-        ensures does { Switched (B.listing self.old.below) (held (pairs_of self.old.pairs) (B.consents self.old.below)) (B.fixed self.old.below) pair.address pair.id on (B.listing self.new.below) (held (pairs_of self.new.pairs) (B.consents self.new.below)) (B.fixed self.new.below) result }
-        ensures same { (pairs_of self.old.pairs ≡ pairs_of self.new.pairs) × B.keeps self.old.below self.new.below }
-    {
-        self.below.switch(pair, on)
     }
 }
 
@@ -81,7 +69,7 @@ impl<B: Host> Host for Holding<B> {
     }
 
     fn switch(&mut self, pair: Pair, on: bool) -> bool {
-        !self.pairs.contains(pair) && self.pass_switch(pair, on)
+        !self.pairs.contains(pair) && self.below.switch(pair, on)
     }
 
     fn plug(&mut self, pair: Pair) -> bool {

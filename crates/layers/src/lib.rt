@@ -8,7 +8,7 @@ pub mod members;
 pub mod pairs;
 pub mod sets;
 
-pub use entries::Entries;
+pub use entries::{Entries, MOST_ENTRIES};
 pub use holding::Holding;
 pub use member::Member;
 pub use members::Members;

@@ -17,7 +17,8 @@ use message::{Pair, Row};
 
 /// Consents to an on exactly if the host below does and also consents to the off of each other row that is on in that set at
 /// that address, and puts these off; in all else it is the host below.
-// Not one type with `Holding`, whose `over` and `below` are alike: the fields' names tell members from pairs.
+// Not one type with `Holding`: a `Layer<B, L>` with a host below and a list `L` would have one `over` and one `below`, of a line
+// each. The two impls of `Host` would stay, one for each list, and speak of a list where now the fields say members and pairs.
 #[derive(Drop)]
 pub struct Sets<B> {
     below: B,
@@ -50,19 +51,13 @@ impl<B: Host> Sets<B> {
         find_row(rows, pair).is_some_and(|k| !rows[k].on)
     }
 
-    // Whether the row in the listing is a rival that the host below keeps on.
-    fn is_stuck(&self, pair: Pair, row: Row) -> bool
-        ensures { result ≡ (rival (members_of self.now.members) pair.address pair.id row && not ((B.consents self.now.below).off pair.address row.id)) }
-    {
-        self.members.is_rival(pair, row) && !self.below.may_go_off(row.pair())
-    }
-
     // Whether the host below keeps a rival of the row on.
     fn is_blocked(&self, pair: Pair) -> bool
         ensures { result ≡ list_any (λ x. rival (members_of self.now.members) pair.address pair.id x && not ((B.consents self.now.below).off pair.address x.id)) (B.listing self.now.below) }
     {
         let rows = self.below.rows();
-        rows.iter().any(|row| self.is_stuck(pair, *row))
+        rows.iter().any(|row| self.members.is_rival(pair, *row)
+            && !self.below.may_go_off(row.pair()))
     }
 
     // Whether the row may go on: the host below consents to it, and to the off of its rivals.
@@ -72,19 +67,13 @@ impl<B: Host> Sets<B> {
         self.below.may_go_on(pair) && !self.is_blocked(pair)
     }
 
-    // Whether the row in the listing is a rival with the other ID.
-    fn is_named(&self, pair: Pair, other: [u8; 5], row: Row) -> bool
-        ensures { result ≡ (rival (members_of self.now.members) pair.address pair.id row && bytes_eq other row.id) }
-    {
-        self.members.is_rival(pair, row) && other == row.id
-    }
-
     // Whether the other ID is that of a rival.
     fn names_rival(&self, pair: Pair, other: [u8; 5]) -> bool
         ensures { result ≡ list_any (λ x. rival (members_of self.now.members) pair.address pair.id x && bytes_eq other x.id) (B.listing self.now.below) }
     {
         let rows = self.below.rows();
-        rows.iter().any(|row| self.is_named(pair, other, *row))
+        rows.iter()
+            .any(|row| self.members.is_rival(pair, *row) && other == row.id)
     }
 
     // Puts the rivals of the row off below.
@@ -120,24 +109,6 @@ impl<B: Host> Sets<B> {
         ensures same { SetsKeep B.keeps self.old self.new }
     {
         self.consents_on(pair) && self.is_off(pair) && self.put_on(pair)
-    }
-
-    // A plug below is the layer's: the row comes in off.
-    fn pass_plug(&mut self, pair: Pair) -> bool
-        ensures does { SetsPlugged B.listing B.consents B.fixed self.old pair.address pair.id self.new result }
-        ensures same { SetsKeep B.keeps self.old self.new }
-        ensures one { StaysOne B.listing self.old self.new }
-    {
-        self.below.plug(pair)
-    }
-
-    // A pull below is the layer's: only a row that is off goes.
-    fn pass_pull(&mut self, pair: Pair) -> bool
-        ensures does { SetsPulled B.listing B.consents B.fixed self.old pair.address pair.id self.new result }
-        ensures same { SetsKeep B.keeps self.old self.new }
-        ensures one { StaysOne B.listing self.old self.new }
-    {
-        self.below.pull(pair)
     }
 }
 
@@ -196,7 +167,7 @@ impl<B: Host> Host for Sets<B> {
         ensures same { SetsKeep B.keeps self.old self.new }
         ensures one { StaysOne B.listing self.old self.new }
     {
-        self.pass_plug(pair)
+        self.below.plug(pair)
     }
 
     fn pull(&mut self, pair: Pair) -> bool
@@ -204,6 +175,6 @@ impl<B: Host> Host for Sets<B> {
         ensures same { SetsKeep B.keeps self.old self.new }
         ensures one { StaysOne B.listing self.old self.new }
     {
-        self.pass_pull(pair)
+        self.below.pull(pair)
     }
 }

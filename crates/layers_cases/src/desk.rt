@@ -7,6 +7,8 @@ use host::Host;
 use message::{Pair, Row};
 
 /// The states of the three, and the rows that show them.
+// Both, as rows are lent and have to be somewhere, and rows alone would not say that they are of these three. No list of
+// states, as the first one's on moves the third.
 #[derive(Drop)]
 pub struct Desk {
     first: bool,
@@ -27,7 +29,7 @@ fn numbered(number: u8) -> [u8; 5]
 fn is_number(number: u8, pair: Pair) -> bool
     ensures { result ≡ is number pair.address pair.id }
 {
-    pair.address == 0 && pair.id == numbered(number)
+    pair == Pair::new(0, numbered(number))
 }
 
 // Whether it is one of the three.
@@ -41,15 +43,7 @@ fn is_known(pair: Pair) -> bool
 fn row(number: u8, on: bool) -> Row
     ensures { result ≡ row 0 (numbered number) on }
 {
-    let id = numbered(number);
-    Row { address: 0, id, on }
-}
-
-// Whether the third stays on at a switch of the first: an on that moves the first puts it off.
-fn third_stays(third: bool, first: bool, on: bool) -> bool
-    ensures { result ≡ (third && (first || not on)) }
-{
-    third && (first || !on)
+    Row::new(Pair::new(0, numbered(number)), on)
 }
 
 impl Desk {
@@ -104,7 +98,8 @@ impl Host for Desk {
     fn switch(&mut self, pair: Pair, on: bool) -> bool {
         if is_number(1, pair) {
             let was = self.first;
-            *self = Desk::with(on, self.second, third_stays(self.third, was, on));
+            // An on that moves the first puts the third off.
+            *self = Desk::with(on, self.second, self.third && (was || !on));
             was != on
         } else if is_number(2, pair) {
             let was = self.second;

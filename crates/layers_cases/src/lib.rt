@@ -155,8 +155,8 @@ mod tests {
     // Rising members, one too many.
     fn seventeen() -> [Member; 17] {
         let mut list = [Member { id: [0; 5], set: 8 }; 17];
-        for (k, member) in list.iter_mut().enumerate() {
-            member.id[4] = k as u8;
+        for (k, member) in (0u8..).zip(list.iter_mut()) {
+            member.id[4] = k;
         }
         list
     }

@@ -6,7 +6,8 @@ ghost use Rattle.numbers.specs.Device.{number, Usable, Reserved, broadcast, has,
 use rising::{enter, find, remove};
 use std::marker::Model;
 
-// How many numbers are usable: 255 reserved ones and broadcast follow.
+// How many numbers are usable: 255 reserved ones and broadcast follow. `message` has it too:
+// this crate depends on `rising` alone.
 const USABLE: u32 = 268_435_200;
 
 /// The own number, which is usable, and up to 32 other devices: rising, each once, all usable, the own never among them.

@@ -2,7 +2,7 @@ use Rattle.std.proofs.Common.{refl}
 use Rattle.layers.specs.Models.{members_of}
 use Rattle.layers.proofs.Setting.{setted_pulled}
 use Rattle.layers.proofs.Rivals.{remove_one}
-use Rattle.layers.proofs.sets.Sets.pass_pull.Goals as goal
+use Rattle.layers.proofs.sets.SetsHost.pull.Goals as goal
 
 pub returns : goal.returns
 returns g c =

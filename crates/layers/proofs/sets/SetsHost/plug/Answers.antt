@@ -2,7 +2,7 @@ use Rattle.std.proofs.Common.{refl}
 use Rattle.layers.specs.Models.{members_of}
 use Rattle.layers.proofs.Setting.{setted_plugged}
 use Rattle.layers.proofs.Rivals.{enter_one}
-use Rattle.layers.proofs.sets.Sets.pass_plug.Goals as goal
+use Rattle.layers.proofs.sets.SetsHost.plug.Goals as goal
 
 pub returns : goal.returns
 returns g c =
