@@ -1,6 +1,6 @@
 //! Whether two rows are on in one set at one address.
-ghost use Rattle.std.specs.Prelude.{◌≡◌, ◌<◌, ◌≤◌, [], length, MatchOption};
-ghost use Rattle.layers.specs.Sets.{set_of, together};
+ghost use Rattle.std.specs.Prelude.{◌≡◌, ◌≤◌, [], length};
+ghost use Rattle.layers.specs.Sets.{set_of, some_set, together};
 ghost use Rattle.sheet.specs.Collisions.{collide, hit, clash};
 
 use layers::Member;
@@ -8,7 +8,7 @@ use message::Row;
 
 // The set that an ID is in, if it is in one: 0 is none.
 fn set_of(members: &[Member], id: [u8; 5]) -> Option<u8>
-    ensures { MatchOption result (set_of members.now id ≡ 0) (λ s. (set_of members.now id ≡ s) × (0 < s)) }
+    ensures { result ≡ some_set (set_of members.now id) }
 {
     let member = members.iter().find(|member| id == member.id)?;
     (member.set > 0).then_some(member.set)
@@ -18,10 +18,7 @@ fn set_of(members: &[Member], id: [u8; 5]) -> Option<u8>
 fn share_a_set(members: &[Member], one: [u8; 5], other: [u8; 5]) -> bool
     ensures { result ≡ together members.now one other }
 {
-    match (set_of(members, one), set_of(members, other)) {
-        (Some(set), Some(its)) => set == its,
-        _ => false,
-    }
+    set_of(members, one).is_some_and(|set| set_of(members, other) == Some(set))
 }
 
 fn collide(members: &[Member], a: Row, b: Row) -> bool

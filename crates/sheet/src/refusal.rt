@@ -5,7 +5,7 @@ use message::Refusal;
 use std::fmt;
 
 /// The refusal (13 to 17), and the word that decided, counted from 0.
-#[derive(Clone, Copy)]
+#[derive(Clone, Copy, PartialEq, Eq, Debug)]
 pub struct SheetRefusal {
     pub refusal: Refusal,
     pub word: usize,
