@@ -17,7 +17,8 @@ pub(crate) fn body(bytes: &[u8], mut draft: Draft) -> Result<Draft, SheetRefusal
 {
     let mut left = bytes;
     let mut last = Opens::Row;
-    // The number of the next word, which a refusal tells.
+    // The number of the next word, which a refusal tells. No `enumerate`: a turn takes two words, of which the second may lack,
+    // and a refusal of the one that lacks tells its number, too.
     let mut n = 3;
     while let Some((word, after)) = split_word(left) {
         let opening = draft.opening(n, last, word)?;

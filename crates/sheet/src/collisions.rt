@@ -6,7 +6,8 @@ ghost use Rattle.sheet.specs.Collisions.{collide, hit, clash};
 use layers::Member;
 use message::Row;
 
-// The set that an ID is in, if it is in one: 0 is none.
+// The set that an ID is in, if it is in one: a slice may say 0, which is none. `layers::Members` answers this of a list in order,
+// but is made only when the sheet has no collision; and its `is_rival` leaves out a row of the same pair, which `collide` does not.
 fn set_of(members: &[Member], id: [u8; 5]) -> Option<u8>
     ensures { result ≡ some_set (set_of members.now id) }
 {
@@ -34,6 +35,7 @@ fn hit(members: &[Member], row: Row, rows: &[Row]) -> bool
 }
 
 // The first word of the first row that collides with an earlier one; the rows begin at the fourth word.
+// A loop: of `find_map` in its place, `search` did not prove `returns`, and the library has no lemma on what it finds in a list.
 pub(crate) fn clash(members: &[Member], rows: &[Row]) -> Option<usize>
     requires { length rows.now ≤ 64 }
     ensures { result ≡ clash members.now 3 [] rows.now }

@@ -1,5 +1,6 @@
 //! A sheet as far as it is read, and what is wrong with its next word.
-ghost use Rattle.std.specs.Prelude.{◌≡◌, true, []};
+ghost use Rattle.std.specs.Prelude.{◌≡◌, ◌==◌, true, false, []};
+ghost use Rattle.sheet.specs.Words.{kind};
 ghost use Rattle.sheet.specs.Contents.{after};
 ghost use Rattle.sheet.specs.Drafts.{contents};
 ghost use Rattle.sheet.specs.Entries.{opens, entry_of, Judged, has_slot, comes_last, with_entry};
@@ -94,13 +95,14 @@ impl Draft {
         }
     }
 
-    // The entry that the word `n` completes, or what is wrong with that word.
+    // The entry that the word `n` completes, or what is wrong with that word; the end opens none.
     pub(crate) fn ending(
         &self,
         n: usize,
         opening: Opening,
         rest: u32,
     ) -> Result<Entry, SheetRefusal>
+        requires { (kind opening.word == 8) ≡ false }
         ensures { Judged n (ending (contents self.now) opening.word rest) (λ e. e ≡ entry_of opening.word rest) result }
     {
         if !Kind::Rest.is_of(rest) {

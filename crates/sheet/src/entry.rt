@@ -1,5 +1,6 @@
 //! Entries of two words.
-ghost use Rattle.std.specs.Prelude.{◌≡◌};
+ghost use Rattle.std.specs.Prelude.{◌≡◌, ◌==◌, false};
+ghost use Rattle.sheet.specs.Words.{kind};
 ghost use Rattle.sheet.specs.Entries.{entry_of};
 
 use crate::kind::Opens;
@@ -17,8 +18,9 @@ pub enum Entry {
 }
 
 impl Entry {
-    // The entry that a word opens, and that `rest` completes. The end opens none: what is asked of it is answered as of a pair.
+    // The entry that a word opens, and that `rest` completes; the end opens none.
     pub(crate) fn of(opening: Opening, rest: u32) -> Entry
+        requires { (kind opening.word == 8) ≡ false }
         ensures { result ≡ entry_of opening.word rest }
     {
         let [head, a, b, c] = fields(opening.word);
@@ -31,7 +33,8 @@ impl Entry {
                 on: state == 1,
             }),
             Opens::Member => Entry::Member(Member { id, set: head }),
-            Opens::Pair | Opens::End => Entry::Pair(Pair { address: head, id }),
+            Opens::Pair => Entry::Pair(Pair { address: head, id }),
+            Opens::End => unreachable!(),
         }
     }
 }

@@ -55,6 +55,7 @@ fn not_rising(place: Place) -> &'static str {
 }
 
 impl SheetRefusal {
+    // Shorter than the fields by name, at the many places that refuse.
     pub(crate) fn new(refusal: Refusal, word: usize) -> SheetRefusal
         ensures { (result.refusal ≡ refusal) × (result.word ≡ word) }
     {

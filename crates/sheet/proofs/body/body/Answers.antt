@@ -1,4 +1,5 @@
 use Rattle.std.proofs.Common.{◌≡◌, ℕ, ◌+◌, sym, refl, ap, ◌∙◌, arith, rules}
+use Rattle.std.proofs.lemmas.Bool.{ne_eqb}
 use Rattle.std.proofs.lemmas.Result.{err_from_is_err_and}
 use Rattle.message.specs.declared.refusal.Refusal.TheVariants.{SheetOrder}
 use Rattle.sheet.specs.Words.{words, kind}
@@ -47,6 +48,12 @@ returns-in_default-next c =
     told_as c.new-in_default-next.result SheetOrder (l.n + 1) c.new-in_default-next.ensures
     ∙ sym (body_cut _ l.n (opens l.last) (contents l.draft) c.in-Some.word _ c.in-Some.ensures.0 c.in_default-next.ensures o.0 (λ h. k (sym q ∙ h)))
     ∙ l.invariant.0
+
+pub ending-requires : goal.ending-requires
+ending-requires c =
+    let o = c.in_ok-opening.opening in
+    let k : opens o.kind ≡ 8 → ⊥ = λ h. search (rules, end_only) in
+    ne_eqb _ 8 (λ h. k (sym o.told ∙ h))
 
 pub returns-in_err-entry : goal.returns-in_err-entry
 returns-in_err-entry c =
