@@ -2,20 +2,16 @@
 use Rattle.std.proofs.Common.{◌≡◌, ℕ, Bool, true, false, cond, ◌&&◌, eqb, ltb, length, refl, arith}
 use Rattle.std.proofs.lemmas.Bool.{and_parts, ne_eqb, both_ways}
 use Rattle.host.specs.Rows.{tally}
-use Rattle.sheet.specs.declared.kind.Kind.{Kind}
-use Rattle.sheet.specs.declared.kind.Kind.TheVariants.{First, Second, Third, Row, Rest, Member, Pair, End}
+use Rattle.sheet.specs.declared.kind.Opens.{Opens}
+use Rattle.sheet.specs.declared.kind.Opens.TheVariants.{Row, Member, Pair, End}
 use Rattle.sheet.specs.declared.entry.Entry.TheVariants as entry
 use Rattle.sheet.specs.Words.{kind, first}
 use Rattle.sheet.specs.Contents.{Contents}
-use Rattle.sheet.specs.Entries.{code, entry_of, has_slot, with_entry}
+use Rattle.sheet.specs.Entries.{opens, entry_of, has_slot, with_entry}
 use Rattle.sheet.specs.Reading.{room, row_of, member_of, pair_of, with_row, with_member, with_pair, entered}
 
-pub end_only : (k : Kind) → code k ≡ 8 → k ≡ End
-end_only First e = absurd (omega arith)
-end_only Second e = absurd (omega arith)
-end_only Third e = absurd (omega arith)
+pub end_only : (k : Opens) → opens k ≡ 8 → k ≡ End
 end_only Row e = absurd (omega arith)
-end_only Rest e = absurd (omega arith)
 end_only Member e = absurd (omega arith)
 end_only Pair e = absurd (omega arith)
 end_only End e = refl

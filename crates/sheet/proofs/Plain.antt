@@ -1,19 +1,20 @@
 -- Facts on words and lists that the functions rest on.
-use Rattle.std.proofs.Common.{Ordering, Less, Equal, Greater, is_lt, ◌≡◌, ℕ, suc, ◌+◌, ◌-◌, ◌%◌, ◌<◌, ◌≤◌, Bool, true, false, cond, eqb, ltb, List, [], ◌∷◌, length, get_or, take, drop, Some, None, Option, sym, refl, ap, ◌∙◌, arith}
+use Rattle.std.proofs.Common.{Ordering, Less, Equal, Greater, is_lt, ◌≡◌, ℕ, zero, suc, ◌+◌, ◌-◌, ◌%◌, ◌<◌, ◌≤◌, Bool, true, false, cond, eqb, ltb, List, [], ◌∷◌, length, get_or, take, drop, Some, None, Option, sym, refl, ap, ◌∙◌, arith}
 use Rattle.std.specs.Str.{bytes_eq}
 use Rattle.std.specs.List.{find}
 use Rattle.std.specs.Bool.{then_some}
 use Rattle.std.specs.Option.{MatchOption}
+use Rattle.std.specs.List.{slice_get}
+use Rattle.std.proofs.lemmas.Option.{none-some, slice_get-get_or}
 use Rattle.std.specs.Int.{w32, from_be_bytes}
-use Rattle.std.proofs.lemmas.Bool.Decides.{nat_tests}
 use Rattle.std.specs.Ordering.{MatchOrdering}
 use Rattle.rising.specs.Order.{Key, before, Before}
 use Rattle.rising.proofs.Order.{not_before}
 use Rattle.sheet.specs.Words.{words}
 use Rattle.layers.specs.declared.member.Member.{Member}
-use Rattle.layers.specs.Sets.{set_of}
+use Rattle.layers.specs.Sets.{set_of, some_set}
 use Rattle.sheet.specs.Reading.{sized}
-use Rattle.std.proofs.lemmas.Bool.{ltb-true, and_from, le-leb, eq-eqb}
+use Rattle.std.proofs.lemmas.Bool.{lt-ltb, and_from, le-leb, eq-eqb}
 use Rattle.sheet.specs.Contents.{after}
 
 pub after_last : {X : Type 0} (key : X → Key) (xs : List X) (x y d : X) → 0 < length xs → y ≡ get_or xs (length xs - 1) y → after key xs x ≡ before (key y) (key x)
@@ -22,6 +23,16 @@ after_last key (z ∷ []) x y d l e = ap (λ w. before (key w) (key x)) (sym e)
 after_last key (z ∷ u ∷ us) x y d l e =
     let s : length (z ∷ u ∷ us) - 1 ≡ suc (length (u ∷ us) - 1) = omega arith in
     after_last key (u ∷ us) x y d (omega arith) (e ∙ ap (λ k. get_or (z ∷ u ∷ us) k y) s)
+
+pub after_none : {X : Type 0} (key : X → Key) (xs : List X) (x : X) → None ≡ slice_get xs (length xs - 1) → after key xs x ≡ true
+after_none key [] x e = refl
+after_none key (z ∷ zs) x e = absurd (none-some _ (e ∙ slice_get-get_or (z ∷ zs) (length (z ∷ zs) - 1) z (omega arith)))
+
+-- what `is_none_or` answers
+pub none_or : {X : Type 0} (o : Option X) (r q : Bool) (P : X → Type 0) → MatchOption o (r ≡ true) P → (o ≡ None → q ≡ true) → ((x : X) → o ≡ Some x → P x → r ≡ q)
+    → r ≡ q
+none_or None r q P e n s = e ∙ sym (n refl)
+none_or (Some x) r q P e n s = s x refl e
 
 -- what a comparison of two keys tells
 pub is_lt_before : (x y : Key) (r : Ordering) → MatchOrdering r (Before x y) (x ≡ y) (Before y x) → is_lt r ≡ before x y
@@ -59,12 +70,9 @@ set_found (m ∷ ms) i = chosen (bytes_eq i m.id) (set_found ms i)
     chosen true h = refl
     chosen false h = h
 
-pub set_told : (n s : ℕ) → n ≡ s → MatchOption (then_some (ltb 0 s) s) (n ≡ 0) (λ x. (n ≡ x) × (0 < x))
-set_told n s e = told (ltb 0 s) (λ t. (e, ltb-true 0 s t)) (λ f. grind (arith, nat_tests))
-  where
-    told : (b : Bool) → (b ≡ true → (n ≡ s) × (0 < s)) → (b ≡ false → n ≡ 0) → MatchOption (then_some b s) (n ≡ 0) (λ x. (n ≡ x) × (0 < x))
-    told true p q = p refl
-    told false p q = q refl
+pub set_told : (n s : ℕ) → n ≡ s → then_some (ltb 0 s) s ≡ some_set n
+set_told n zero e = ap some_set (sym e)
+set_told n (suc s) e = rw (lt-ltb 0 (suc s) (omega arith)) (ap some_set (sym e))
 
 pub sized_true : (n : ℕ) → 16 ≤ n → n ≤ 784 → n % 4 ≡ 0 → sized n ≡ true
 sized_true n a b c = and_from _ _ (le-leb 16 n a) (and_from _ _ (le-leb n 784 b) (eq-eqb (n % 4) 0 c))

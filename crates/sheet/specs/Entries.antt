@@ -5,23 +5,29 @@ use Rattle.layers.specs.Lists.{member_key}
 use Rattle.message.specs.declared.refusal.Refusal.{Refusal}
 use Rattle.sheet.specs.declared.refusal.SheetRefusal.{SheetRefusal}
 use Rattle.sheet.specs.declared.kind.Kind.{Kind}
-use Rattle.sheet.specs.declared.kind.Kind.TheVariants.{First, Second, Third, Row, Rest, Member, Pair, End}
+use Rattle.sheet.specs.declared.kind.Kind.TheVariants.{First, Second, Third, Opening, Rest}
+use Rattle.sheet.specs.declared.kind.Opens.{Opens}
+use Rattle.sheet.specs.declared.kind.Opens.TheVariants.{Row, Member, Pair, End}
 use Rattle.sheet.specs.declared.entry.Entry.{Entry}
 use Rattle.sheet.specs.declared.entry.Entry.TheVariants as entry
 use Rattle.sheet.specs.Words.{kind}
 use Rattle.sheet.specs.Contents.{Contents, after}
 use Rattle.sheet.specs.Reading.{row_of, member_of, pair_of, with_row, with_member, with_pair}
 
+-- the numbers of the kinds that open an entry or the end
+abbrev pub opens : Opens → ℕ
+opens Row = 4
+opens Member = 6
+opens Pair = 7
+opens End = 8
+
 -- the numbers of the kinds
 abbrev pub code : Kind → ℕ
 code First = 1
 code Second = 2
 code Third = 3
-code Row = 4
+code (Opening o) = opens o
 code Rest = 5
-code Member = 6
-code Pair = 7
-code End = 8
 
 abbrev pub is_kind : ℕ → Bool
 is_kind n = nat_le 1 n && nat_le n 8

@@ -1,14 +1,15 @@
 //! Whether two rows are on in one set at one address.
-ghost use Rattle.std.specs.Prelude.{◌≡◌, ◌<◌, ◌≤◌, [], length, MatchOption};
-ghost use Rattle.layers.specs.Sets.{set_of, together};
+ghost use Rattle.std.specs.Prelude.{◌≡◌, ◌≤◌, [], length};
+ghost use Rattle.layers.specs.Sets.{set_of, some_set, together};
 ghost use Rattle.sheet.specs.Collisions.{collide, hit, clash};
 
 use layers::Member;
 use message::Row;
 
-// The set that an ID is in, if it is in one: 0 is none.
+// The set that an ID is in, if it is in one: a slice may say 0, which is none. `layers::Members` answers this of a list in order,
+// but is made only when the sheet has no collision; and its `is_rival` leaves out a row of the same pair, which `collide` does not.
 fn set_of(members: &[Member], id: [u8; 5]) -> Option<u8>
-    ensures { MatchOption result (set_of members.now id ≡ 0) (λ s. (set_of members.now id ≡ s) × (0 < s)) }
+    ensures { result ≡ some_set (set_of members.now id) }
 {
     let member = members.iter().find(|member| id == member.id)?;
     (member.set > 0).then_some(member.set)
@@ -18,10 +19,7 @@ fn set_of(members: &[Member], id: [u8; 5]) -> Option<u8>
 fn share_a_set(members: &[Member], one: [u8; 5], other: [u8; 5]) -> bool
     ensures { result ≡ together members.now one other }
 {
-    match (set_of(members, one), set_of(members, other)) {
-        (Some(set), Some(its)) => set == its,
-        _ => false,
-    }
+    set_of(members, one).is_some_and(|set| set_of(members, other) == Some(set))
 }
 
 fn collide(members: &[Member], a: Row, b: Row) -> bool
@@ -37,6 +35,7 @@ fn hit(members: &[Member], row: Row, rows: &[Row]) -> bool
 }
 
 // The first word of the first row that collides with an earlier one; the rows begin at the fourth word.
+// A loop: of `find_map` in its place, `search` did not prove `returns`, and the library has no lemma on what it finds in a list.
 pub(crate) fn clash(members: &[Member], rows: &[Row]) -> Option<usize>
     requires { length rows.now ≤ 64 }
     ensures { result ≡ clash members.now 3 [] rows.now }

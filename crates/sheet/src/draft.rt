@@ -1,16 +1,17 @@
 //! A sheet as far as it is read, and what is wrong with its next word.
-ghost use Rattle.std.specs.Prelude.{◌≡◌, true, []};
+ghost use Rattle.std.specs.Prelude.{◌≡◌, ◌==◌, true, false, []};
+ghost use Rattle.sheet.specs.Words.{kind};
 ghost use Rattle.sheet.specs.Contents.{after};
 ghost use Rattle.sheet.specs.Drafts.{contents};
-ghost use Rattle.sheet.specs.Entries.{code, entry_of, Judged, has_slot, comes_last, with_entry};
+ghost use Rattle.sheet.specs.Entries.{opens, entry_of, Judged, has_slot, comes_last, with_entry};
 ghost use Rattle.sheet.specs.Reading.{room, opening, fits_end, ending};
 
 use crate::entry::Entry;
-use crate::kind::Kind;
+use crate::kind::{Kind, Opens};
 use crate::opening::Opening;
 use crate::refusal::SheetRefusal;
 use crate::slots::Slots;
-use crate::word::{first, fourth, third};
+use crate::word::fields;
 use host::count_at;
 use layers::{Member, Pair};
 use message::{Identity, Refusal, Row};
@@ -29,21 +30,16 @@ pub struct Draft {
 fn comes_after<T: Keyed>(list: &[T], x: &T) -> bool
     ensures { result ≡ after T.key list.now x.now }
 {
-    match list.last() {
-        Some(last) => last.compare(x).is_lt(),
-        None => true,
-    }
+    list.last().is_none_or(|last| last.compare(x).is_lt())
 }
 
 // Whether the second word of an entry has its 0, and a state that the entry may have.
-fn fits_end(opening: Opening, then: u32) -> bool
-    ensures { result ≡ fits_end opening.word «then» }
+fn fits_end(opening: Opening, rest: u32) -> bool
+    ensures { result ≡ fits_end opening.word rest }
 {
-    let most = match opening.kind {
-        Kind::Row => 1,
-        _ => 0,
-    };
-    third(then) == 0 && fourth(then) <= most
+    let [_, _, zero, state] = fields(rest);
+    let most = u8::from(opening.kind == Opens::Row);
+    zero == 0 && state <= most
 }
 
 impl Draft {
@@ -63,19 +59,18 @@ impl Draft {
     fn has_room(&self, opening: Opening) -> bool
         ensures { result ≡ room (contents self.now) opening.word }
     {
+        let [address, ..] = fields(opening.word);
         match opening.kind {
-            Kind::End => true,
-            Kind::Row => {
-                self.rows.has_room() && count_at(self.rows.as_slice(), first(opening.word)) < 21
-            }
-            Kind::Member => self.members.has_room(),
-            _ => self.pairs.has_room(),
+            Opens::Row => self.rows.has_room() && count_at(self.rows.as_slice(), address) < 21,
+            Opens::Member => self.members.has_room(),
+            Opens::Pair => self.pairs.has_room(),
+            Opens::End => true,
         }
     }
 
     // The word `n` as an entry's first or as the closing word, or what is wrong with it.
-    pub(crate) fn opening(&self, n: usize, last: Kind, word: u32) -> Result<Opening, SheetRefusal>
-        ensures { Judged n (opening n (code last) (contents self.now) word) (λ o. o.word ≡ word) result }
+    pub(crate) fn opening(&self, n: usize, last: Opens, word: u32) -> Result<Opening, SheetRefusal>
+        ensures { Judged n (opening n (opens last) (contents self.now) word) (λ o. o.word ≡ word) result }
     {
         let Some(opening) = Opening::after(last, word) else {
             return Err(SheetRefusal::new(Refusal::SheetOrder, n));
@@ -100,22 +95,23 @@ impl Draft {
         }
     }
 
-    // The entry that the word `n` completes, or what is wrong with that word.
+    // The entry that the word `n` completes, or what is wrong with that word; the end opens none.
     pub(crate) fn ending(
         &self,
         n: usize,
         opening: Opening,
-        then: u32,
+        rest: u32,
     ) -> Result<Entry, SheetRefusal>
-        ensures { Judged n (ending (contents self.now) opening.word «then») (λ e. e ≡ entry_of opening.word «then») result }
+        requires { (kind opening.word == 8) ≡ false }
+        ensures { Judged n (ending (contents self.now) opening.word rest) (λ e. e ≡ entry_of opening.word rest) result }
     {
-        if !Kind::Rest.is_of(then) {
+        if !Kind::Rest.is_of(rest) {
             return Err(SheetRefusal::new(Refusal::SheetOrder, n));
         }
-        if !fits_end(opening, then) {
+        if !fits_end(opening, rest) {
             return Err(SheetRefusal::new(Refusal::FieldOutOfRange, n));
         }
-        let entry = Entry::of(opening, then);
+        let entry = Entry::of(opening, rest);
         if !self.comes_last(&entry) {
             return Err(SheetRefusal::new(Refusal::NotRising, n));
         }

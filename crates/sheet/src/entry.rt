@@ -1,11 +1,11 @@
 //! Entries of two words.
-ghost use Rattle.std.specs.Prelude.{◌≡◌};
+ghost use Rattle.std.specs.Prelude.{◌≡◌, ◌==◌, false};
+ghost use Rattle.sheet.specs.Words.{kind};
 ghost use Rattle.sheet.specs.Entries.{entry_of};
-ghost use Rattle.sheet.specs.Reading.{id_of};
 
-use crate::kind::Kind;
+use crate::kind::Opens;
 use crate::opening::Opening;
-use crate::word::{first, fourth, second, third};
+use crate::word::fields;
 use layers::{Member, Pair};
 use message::Row;
 
@@ -17,40 +17,24 @@ pub enum Entry {
     Pair(Pair),
 }
 
-// The ID in two words.
-fn id_of(word: u32, then: u32) -> [u8; 5]
-    ensures { result ≡ id_of word «then» }
-{
-    [
-        second(word),
-        third(word),
-        fourth(word),
-        first(then),
-        second(then),
-    ]
-}
-
 impl Entry {
-    // The entry that a word opens, and that `then` completes.
-    pub(crate) fn of(opening: Opening, then: u32) -> Entry
-        ensures { result ≡ entry_of opening.word «then» }
+    // The entry that a word opens, and that `rest` completes; the end opens none.
+    pub(crate) fn of(opening: Opening, rest: u32) -> Entry
+        requires { (kind opening.word == 8) ≡ false }
+        ensures { result ≡ entry_of opening.word rest }
     {
-        let word = opening.word;
-        let id = id_of(word, then);
+        let [head, a, b, c] = fields(opening.word);
+        let [d, e, _, state] = fields(rest);
+        let id = [a, b, c, d, e];
         match opening.kind {
-            Kind::Row => Entry::Row(Row {
-                address: first(word),
+            Opens::Row => Entry::Row(Row {
+                address: head,
                 id,
-                on: fourth(then) == 1,
+                on: state == 1,
             }),
-            Kind::Member => Entry::Member(Member {
-                id,
-                set: first(word),
-            }),
-            _ => Entry::Pair(Pair {
-                address: first(word),
-                id,
-            }),
+            Opens::Member => Entry::Member(Member { id, set: head }),
+            Opens::Pair => Entry::Pair(Pair { address: head, id }),
+            Opens::End => unreachable!(),
         }
     }
 }

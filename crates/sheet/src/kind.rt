@@ -3,18 +3,23 @@ ghost use Rattle.std.specs.Prelude.{◌≡◌, ◌==◌, false, MatchOption};
 ghost use Rattle.sheet.specs.Words.{kind};
 ghost use Rattle.sheet.specs.Entries.{code, is_kind};
 
-/// The kind of a word: one of the first three words, the first of an entry's two words (a row, a member or a held pair), its
-/// second word, or the closing word.
+/// What a word opens: an entry of two words (a row, a member or a held pair), or the end. They stand in this order.
 #[derive(Clone, Copy, PartialEq, Eq, PartialOrd, Ord)]
+pub enum Opens {
+    Row,
+    Member,
+    Pair,
+    End,
+}
+
+/// The kind of a word: one of the first three words, the first of an entry or the closing word, or the rest of an entry.
+#[derive(Clone, Copy, PartialEq, Eq)]
 pub enum Kind {
-    First = 1,
-    Second = 2,
-    Third = 3,
-    Row = 4,
-    Rest = 5,
-    Member = 6,
-    Pair = 7,
-    End = 8,
+    First,
+    Second,
+    Third,
+    Opening(Opens),
+    Rest,
 }
 
 impl Kind {
@@ -26,11 +31,11 @@ impl Kind {
             1 => Some(Kind::First),
             2 => Some(Kind::Second),
             3 => Some(Kind::Third),
-            4 => Some(Kind::Row),
+            4 => Some(Kind::Opening(Opens::Row)),
             5 => Some(Kind::Rest),
-            6 => Some(Kind::Member),
-            7 => Some(Kind::Pair),
-            8 => Some(Kind::End),
+            6 => Some(Kind::Opening(Opens::Member)),
+            7 => Some(Kind::Opening(Opens::Pair)),
+            8 => Some(Kind::Opening(Opens::End)),
             _ => None,
         }
     }
@@ -39,6 +44,6 @@ impl Kind {
     pub(crate) fn is_of(self, word: u32) -> bool
         ensures { result ≡ (kind word == code self) }
     {
-        word / 0x1000_0000 == self as u32
+        Kind::of(word) == Some(self)
     }
 }

@@ -3,7 +3,7 @@ ghost use Rattle.std.specs.Prelude.{◌≡◌, Ok};
 ghost use Rattle.sheet.specs.Contents.{Contents};
 ghost use Rattle.sheet.specs.Law.{Exactly};
 ghost use Rattle.sheet.specs.Layout.{flat, layout};
-ghost use Rattle.sheet.specs.Reading.{accepted, reads, reads_words, identity_of, header, settled, sized};
+ghost use Rattle.sheet.specs.Reading.{accepted, reads, reads_words, header, settled, sized};
 ghost use Rattle.sheet.specs.Told.{told, says};
 ghost use Rattle.sheet.specs.Valid.{Valid};
 ghost use Rattle.sheet.specs.Words.{words};
@@ -15,29 +15,11 @@ use crate::kind::Kind;
 use crate::refusal::SheetRefusal;
 use crate::sheet::Sheet;
 use crate::sheet::making::make;
-use crate::word::{first, fourth, second, split_word, third};
+use crate::word::{fields, split_word};
 use message::{Identity, Refusal};
 
-// The eleven identity bytes in the first three words.
-fn identity_of(u: u32, v: u32, w: u32) -> [u8; 11]
-    ensures { result ≡ identity_of u v w }
-{
-    [
-        first(u),
-        second(u),
-        third(u),
-        fourth(u),
-        first(v),
-        second(v),
-        third(v),
-        fourth(v),
-        first(w),
-        second(w),
-        third(w),
-    ]
-}
-
-// Identity and Function Block, in the first three words.
+// Identity and Function Block, in the first three words: eleven identity bytes, and the block as the twelfth field.
+// Three tests and no loop, which would need the three kinds, words and numbers in pairs.
 fn header(u: u32, v: u32, w: u32) -> Result<Draft, SheetRefusal>
     ensures { told result ≡ header u v w }
 {
@@ -50,10 +32,12 @@ fn header(u: u32, v: u32, w: u32) -> Result<Draft, SheetRefusal>
     if !Kind::Third.is_of(w) {
         return Err(SheetRefusal::new(Refusal::SheetOrder, 2));
     }
-    match Identity::new(identity_of(u, v, w), fourth(w)) {
-        Ok(identity) => Ok(Draft::new(identity)),
-        Err(refusal) => Err(SheetRefusal::new(refusal, 2)),
-    }
+    let [a, b, c, d] = fields(u);
+    let [e, f, g, h] = fields(v);
+    let [i, j, k, block] = fields(w);
+    Identity::new([a, b, c, d, e, f, g, h, i, j, k], block)
+        .map(Draft::new)
+        .map_err(|refusal| SheetRefusal::new(refusal, 2))
 }
 
 // Reads the words: the first three, and those after them.

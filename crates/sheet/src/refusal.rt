@@ -5,7 +5,7 @@ use message::Refusal;
 use std::fmt;
 
 /// The refusal (13 to 17), and the word that decided, counted from 0.
-#[derive(Clone, Copy)]
+#[derive(Clone, Copy, PartialEq, Eq, Debug)]
 pub struct SheetRefusal {
     pub refusal: Refusal,
     pub word: usize,
@@ -55,6 +55,7 @@ fn not_rising(place: Place) -> &'static str {
 }
 
 impl SheetRefusal {
+    // Shorter than the fields by name, at the many places that refuse.
     pub(crate) fn new(refusal: Refusal, word: usize) -> SheetRefusal
         ensures { (result.refusal ≡ refusal) × (result.word ≡ word) }
     {

@@ -1,4 +1,5 @@
-//! Entries in fixed slots, of which the first `count` are in use.
+//! Entries in fixed slots, of which the first `count` are in use: no heap, by a rule. `layers::Entries` is made at once of a list
+//! that it judges; these grow by one, and each word is judged before.
 ghost use Rattle.std.specs.Prelude.{◌≡◌, ◌<◌, nat_lt, [], ◌∷◌, ◌++◌, length};
 
 use std::marker::Model;

@@ -10,29 +10,17 @@ pub(crate) fn split_word(bytes: &[u8]) -> Option<(u32, &[u8])>
     Some((u32::from_be_bytes(*word), rest))
 }
 
-// The four fields of seven bits, from the highest.
-pub(crate) fn first(word: u32) -> u8
-    ensures { result ≡ first word }
+// The four fields of seven bits below the kind, from the highest.
+pub(crate) fn fields(word: u32) -> [u8; 4]
+    ensures { result ≡ first word ∷ second word ∷ third word ∷ fourth word ∷ [] }
 {
-    (word / 0x20_0000 % 0x80) as u8
-}
-
-pub(crate) fn second(word: u32) -> u8
-    ensures { result ≡ second word }
-{
-    (word / 0x4000 % 0x80) as u8
-}
-
-pub(crate) fn third(word: u32) -> u8
-    ensures { result ≡ third word }
-{
-    (word / 0x80 % 0x80) as u8
-}
-
-pub(crate) fn fourth(word: u32) -> u8
-    ensures { result ≡ fourth word }
-{
-    (word % 0x80) as u8
+    // `as` narrows what has seven bits: `try_from` would be no plainer, with an error that cannot be.
+    [
+        (word / 0x20_0000 % 0x80) as u8,
+        (word / 0x4000 % 0x80) as u8,
+        (word / 0x80 % 0x80) as u8,
+        (word % 0x80) as u8,
+    ]
 }
 
 // The 28 bits below the kind, as one number.
