@@ -20,17 +20,13 @@ fn write_identity<W: Write>(out: &mut W, identity: Identity) -> io::Result<()> {
     writeln!(out, "Function Block number {block}")
 }
 
-fn state_of(on: bool) -> &'static str {
-    if on { "on" } else { "off" }
-}
-
 fn write_rows<W: Write>(out: &mut W, rows: &[Row]) -> io::Result<()> {
     let count = rows.len();
     writeln!(out, "rows: {count}")?;
     for row in rows {
         let place = Place(row.address);
         let id = Hex(&row.id);
-        let state = state_of(row.on);
+        let state = if row.on { "on" } else { "off" };
         writeln!(out, "  {place}: {id} {state}")?;
     }
     Ok(())
@@ -39,7 +35,8 @@ fn write_rows<W: Write>(out: &mut W, rows: &[Row]) -> io::Result<()> {
 fn write_members<W: Write>(out: &mut W, members: &[Member]) -> io::Result<()> {
     let count = members.len();
     writeln!(out, "members of sets: {count}")?;
-    for set in 1..9u8 {
+    // set by set, since the sheet has its members by ID
+    for set in 1..=8u8 {
         for member in members.iter().filter(|m| m.set == set) {
             let id = Hex(&member.id);
             writeln!(out, "  set {set}: {id}")?;

@@ -12,30 +12,29 @@ use std::process::ExitCode;
 /// How many bytes are read at most, one word more than a sheet may have: what has more is too long in any case.
 const ROOM: u64 = 788;
 
-/// Whether the sheet on standard input is accepted, once that is told.
-fn run(rt: &HostRuntime) -> io::Result<bool> {
+/// Tells what the sheet on standard input says, and gives the status: a failure where the sheet is refused.
+fn run(rt: &HostRuntime) -> io::Result<ExitCode> {
     let mut bytes = Vec::new(rt.alloc());
     rt.stdin().take(ROOM).read_to_end(&mut bytes)?;
     let mut out = BufWriter::new(rt.alloc(), rt.stdout())?;
-    let accepted = match read_sheet(bytes.as_slice()) {
+    let code = match read_sheet(bytes.as_slice()) {
         Ok(sheet) => {
             write_instrument(&mut out, &sheet)?;
-            true
+            ExitCode::SUCCESS
         }
         Err(refusal) => {
             let number = refusal.refusal.number();
             writeln!(out, "refused ({number}), {refusal}")?;
-            false
+            ExitCode::FAILURE
         }
     };
     out.flush()?;
-    Ok(accepted)
+    Ok(code)
 }
 
 fn main(rt: HostRuntime) -> ExitCode {
     match run(&rt) {
-        Ok(true) => ExitCode::SUCCESS,
-        Ok(false) => ExitCode::FAILURE,
+        Ok(code) => code,
         Err(e) => {
             let _ = eprintln!(rt; "check_sheet: {e}");
             ExitCode::FAILURE

@@ -36,25 +36,21 @@ impl Collector {
 mod tests {
     use crate::Collector;
     use message::Refusal;
+    use std::alloc::AllocGlobal;
+    use std::process::Abort;
 
-    // What a stream's calls told: how many messages, and the length of the last.
-    #[derive(Clone, Copy)]
-    struct Told {
-        messages: u8,
-        length: usize,
-    }
-
-    // Feeds a stream.
-    fn drive(collector: &mut Collector, stream: &[u8], buffer: &mut [u8]) -> Told {
-        let mut messages: u8 = 0;
-        let mut length = 0;
-        for byte in stream {
-            if let Ok(Some(n)) = collector.feed(*byte, buffer) {
-                messages = messages.wrapping_add(1);
-                length = n;
-            }
-        }
-        Told { messages, length }
+    // Feeds a stream, and tells the lengths of the messages that come out, in their order.
+    fn drive(
+        rt: &(impl Abort + AllocGlobal),
+        collector: &mut Collector,
+        stream: &[u8],
+        buffer: &mut [u8],
+    ) -> Vec<usize> {
+        stream
+            .iter()
+            .filter_map(|byte| collector.feed(*byte, buffer).ok().flatten())
+            .collect(rt.alloc())
+            .expect(rt, "memory")
     }
 
     // Whether each byte of a stream is refused for the buffer's length.
@@ -66,9 +62,13 @@ mod tests {
     fn a_message_comes_out_whole(rt: HostRuntime) {
         let mut collector = Collector::new();
         let mut buffer = [9; 600];
-        let told = drive(&mut collector, &[0x01, 0xF0, 0x7E, 0x7F, 0xF7], &mut buffer);
-        assert_eq!(rt; told.messages, 1);
-        assert_eq!(rt; told.length, 4);
+        let told = drive(
+            &rt,
+            &mut collector,
+            &[0x01, 0xF0, 0x7E, 0x7F, 0xF7],
+            &mut buffer,
+        );
+        assert_eq!(rt; told.as_slice(), [4].as_slice());
         assert!(rt; buffer.starts_with(&[0xF0, 0x7E, 0x7F, 0xF7, 9]));
         assert_eq!(rt; collector.open(), None);
     }
@@ -78,12 +78,12 @@ mod tests {
         let mut collector = Collector::new();
         let mut buffer = [9; 512];
         let told = drive(
+            &rt,
             &mut collector,
             &[0xF0, 0xF8, 0x7E, 0xFE, 0xFF, 0xF7, 0xF8],
             &mut buffer,
         );
-        assert_eq!(rt; told.messages, 1);
-        assert_eq!(rt; told.length, 3);
+        assert_eq!(rt; told.as_slice(), [3].as_slice());
         assert!(rt; buffer.starts_with(&[0xF0, 0x7E, 0xF7, 9]));
     }
 
@@ -91,20 +91,23 @@ mod tests {
     fn a_dropped_message_is_not_told(rt: HostRuntime) {
         let mut collector = Collector::new();
         let mut buffer = [9; 512];
-        let by_opening = drive(&mut collector, &[0xF0, 1, 2, 3, 0xF0, 4, 0xF7], &mut buffer);
-        assert_eq!(rt; by_opening.messages, 1);
-        assert_eq!(rt; by_opening.length, 3);
+        let by_opening = drive(
+            &rt,
+            &mut collector,
+            &[0xF0, 1, 2, 3, 0xF0, 4, 0xF7],
+            &mut buffer,
+        );
+        assert_eq!(rt; by_opening.as_slice(), [3].as_slice());
         assert!(rt; buffer.starts_with(&[0xF0, 4, 0xF7, 3, 9]));
-        let by_status = drive(&mut collector, &[0xF0, 1, 0xC0, 2, 0xF7], &mut buffer);
-        assert_eq!(rt; by_status.messages, 0);
+        let by_status = drive(&rt, &mut collector, &[0xF0, 1, 0xC0, 2, 0xF7], &mut buffer);
+        assert!(rt; by_status.is_empty());
         assert_eq!(rt; collector.open(), None);
-        let next = drive(&mut collector, &[0xF0, 5, 0xF7, 0xF7], &mut buffer);
+        let next = drive(&rt, &mut collector, &[0xF0, 5, 0xF7, 0xF7], &mut buffer);
         assert_eq!(rt;
-            next.messages,
-            1,
+            next.as_slice(),
+            [3].as_slice(),
             "F7h without an open message tells nothing"
         );
-        assert_eq!(rt; next.length, 3);
     }
 
     #[test]
@@ -114,34 +117,33 @@ mod tests {
         let mut stream = [1; 513];
         stream[0] = 0xF0;
         stream[511] = 0xF7;
-        let longest = drive(&mut collector, &stream, &mut buffer);
-        assert_eq!(rt; longest.messages, 1);
-        assert_eq!(rt; longest.length, 512);
+        let longest = drive(&rt, &mut collector, &stream, &mut buffer);
+        assert_eq!(rt; longest.as_slice(), [512].as_slice());
         stream[511] = 1;
         stream[512] = 0xF7;
-        let ended = drive(&mut collector, &stream, &mut buffer);
-        assert_eq!(rt; ended.messages, 0);
+        let ended = drive(&rt, &mut collector, &stream, &mut buffer);
+        assert!(rt; ended.is_empty());
         assert_eq!(rt; collector.open(), None);
         assert_eq!(rt; buffer[512], 9);
         stream[512] = 1;
-        let _ = drive(&mut collector, &stream, &mut buffer);
+        let _ = drive(&rt, &mut collector, &stream, &mut buffer);
         assert!(rt; collector.open() == None, "dropped by a byte below 80h");
         assert_eq!(rt; buffer[512], 9);
-        let next = drive(&mut collector, &[0xF0, 0xF7], &mut buffer);
-        assert_eq!(rt; next.length, 2);
+        let next = drive(&rt, &mut collector, &[0xF0, 0xF7], &mut buffer);
+        assert_eq!(rt; next.as_slice(), [2].as_slice());
     }
 
     #[test]
     fn a_small_buffer_is_refused(rt: HostRuntime) {
         let mut collector = Collector::new();
         let mut buffer = [9; 512];
-        let _ = drive(&mut collector, &[0xF0, 1], &mut buffer);
+        let _ = drive(&rt, &mut collector, &[0xF0, 1], &mut buffer);
         let mut small = [7; 511];
         assert!(rt; refused(&mut collector, &[0xF0, 2, 0xF7, 0xC0], &mut small));
         assert!(rt; small.starts_with(&[7, 7, 7]));
         assert_eq!(rt; collector.open(), Some(2));
-        let told = drive(&mut collector, &[3, 0xF7], &mut buffer);
-        assert_eq!(rt; told.length, 4);
+        let told = drive(&rt, &mut collector, &[3, 0xF7], &mut buffer);
+        assert_eq!(rt; told.as_slice(), [4].as_slice());
         assert!(rt; buffer.starts_with(&[0xF0, 1, 3, 0xF7]));
     }
 }

@@ -1,5 +1,6 @@
 //! Names of messages and meanings of statuses.
-//! They are matched by byte: nearly none is a message that is read, so an enum of them would only add a match from bytes to its cases.
+//! They are the whole standard's, matched by byte: `SubId` and `NakStatus` have only the 12 of 40 messages and the 4 of 11 statuses that this
+//! product reads or writes, and enums of all would be no plainer, since they only add a match from bytes to cases.
 
 /// The name of a message of MIDI-CI 1.2 by its Sub-ID, unless the Sub-ID is reserved.
 pub(crate) fn message_name(sub_id: u8) -> Option<&'static str> {

@@ -45,7 +45,8 @@ impl fmt::Display for Device {
     }
 }
 
-/// The hexadecimal digits. With `{byte:02X}` in their place `trace` takes 3.6 s for 200 MB of messages, and with these 2.7 s.
+/// The hexadecimal digits. With `{byte:02X}` in their place `trace` takes 3.6 s for 200 MB of messages, measured as in docs/CHECKS.md, and with
+/// these 2.7 s.
 const DIGITS: [&str; 16] = [
     "0", "1", "2", "3", "4", "5", "6", "7", "8", "9", "A", "B", "C", "D", "E", "F",
 ];
@@ -68,19 +69,16 @@ impl fmt::Display for Hex<'_> {
     }
 }
 
-/// How many Profile IDs there are, and which.
+/// How many Profile IDs there are, in which state, and which.
 #[derive(Clone, Copy)]
-pub struct Ids<'a> {
-    pub bytes: &'a [u8],
-    pub state: &'static str,
-}
+pub struct Ids<'a>(pub &'a [u8], pub &'static str);
 
 impl fmt::Display for Ids<'_> {
     fn fmt<W: fmt::Write>(&self, f: &mut fmt::Formatter<W>) -> fmt::Result {
-        let count = self.bytes.len() / 5;
-        let state = self.state;
+        let Ids(bytes, state) = *self;
+        let count = bytes.len() / 5;
         write!(f, "{count} {state}")?;
-        for (i, id) in self.bytes.chunks(5).enumerate() {
+        for (i, id) in bytes.chunks(5).enumerate() {
             let before = if i == 0 { ": " } else { ", " };
             write!(f, "{before}{}", Hex(id))?;
         }

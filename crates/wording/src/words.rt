@@ -1,7 +1,7 @@
 //! A message in words.
-use crate::holds::{Block, Reason, Sender, Target, Unread};
-use crate::parts::{Device, Hex, Ids, Kind, Place};
-use message::{Content, Message};
+use crate::holds::Holds;
+use crate::parts::{Device, Kind, Place};
+use message::Message;
 use std::fmt;
 
 /// A message: its kind, address, version, source and destination, and what it holds.
@@ -18,42 +18,8 @@ impl fmt::Display for Words<'_> {
         let destination = Device(message.destination);
         write!(
             f,
-            "{kind} at {place}, version {version}, from {source} to {destination}"
-        )?;
-        match message.content {
-            Content::Discovery(body) => write!(f, ": {}", Sender { version, body }),
-            Content::DiscoveryReply(body) => {
-                let block = Block { version, body };
-                write!(f, ": {}{block}", Sender { version, body })
-            }
-            Content::InvalidateMuid(target) => write!(f, ": MUID {}", Target(target)),
-            Content::ProfileInquiry => Ok(()),
-            Content::ProfileReply { on, off } => {
-                let on = Ids {
-                    bytes: on,
-                    state: "on",
-                };
-                let off = Ids {
-                    bytes: off,
-                    state: "off",
-                };
-                write!(f, ": {on}; {off}")
-            }
-            Content::SetOn(id)
-            | Content::SetOff(id)
-            | Content::Enabled(id)
-            | Content::Disabled(id)
-            | Content::Added(id)
-            | Content::Removed(id) => write!(f, ": profile {}", Hex(id)),
-            Content::Nak(body) => write!(f, ": {}", Reason { version, body }),
-            Content::Other => write!(
-                f,
-                "{}",
-                Unread {
-                    sub_id: message.sub_id,
-                    version
-                }
-            ),
-        }
+            "{kind} at {place}, version {version}, from {source} to {destination}{}",
+            Holds(message)
+        )
     }
 }
