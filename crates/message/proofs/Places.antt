@@ -1,12 +1,11 @@
 -- One write after another into a buffer.
-use Rattle.std.proofs.Common.{◌≡◌, ℕ, ◌+◌, ◌≤◌, true, List, [], ◌++◌, length, Ok, sym, refl, ap, ◌∙◌, subst, add-zero, arith}
+use Rattle.std.proofs.Common.{◌≡◌, ℕ, ◌+◌, ◌≤◌, List, [], ◌++◌, length, sym, refl, ap, ◌∙◌, subst, add-zero, arith}
 use lib.Seq.{paste}
 use borrow.Rule.Slice.PartMut.{put_mid}
 use Rattle.std.proofs.lemmas.List.{length-append, take-append-drop}
 use Rattle.std.proofs.lemmas.List.Edits.{paste-paste, paste_all, length-paste}
 use Rattle.std.proofs.lemmas.Slice.{put_mid-paste}
-use Rattle.std.proofs.lemmas.Bool.{and_from, cond-true, le-leb}
-use Rattle.message.specs.Writing.{written, room_for, Put, Left, Written}
+use Rattle.message.specs.Writing.{written, Put, Left}
 
 pub written_paste : (b : List ℕ) (at : ℕ) (xs : List ℕ) → paste b at xs (length xs) ≡ written b at xs
 unfolding written
@@ -85,10 +84,3 @@ left-all {b} {at} {bytes} {mid} {is} room p =
 pub left_as : {b : List ℕ} {at : ℕ} {bytes : List ℕ} {mid mid' : ℕ} {is is' rest rest' : List ℕ}
     → mid' ≡ mid → is' ≡ is → rest ≡ rest' → Left b at bytes mid is rest → Left b at bytes mid' is' rest'
 left_as {b} {at} {bytes} {mid} {mid'} {is} {is'} {rest} {rest'} p q r h = rw (p, q, ← r) h
-
--- a message that was put whole is written
-pub written-whole : {before : List ℕ} {at : ℕ} {bytes : List ℕ} {end : ℕ} {after : List ℕ}
-    → length bytes ≤ 512 → Put before at bytes end after → Written bytes before at (Ok end) after
-written-whole {before} {at} {bytes} {end} {after} few p =
-    let f : room_for (length bytes) before at ≡ true = and_from _ _ (le-leb (length bytes) 512 few) (le-leb (at + length bytes) (length before) p.room) in
-    record { value = ap Ok p.ends ∙ sym (cond-true _ _ _ f); holds = p.holds ∙ sym (cond-true _ _ _ f) }
