@@ -33,6 +33,7 @@ impl Writing {
     }
 
     /// An entry of two words: its kind, an address or set, an ID that ends with a number, and its state.
+    // All by number and not by an enum, as a sheet in the making may be wrong in each.
     pub fn entry(&mut self, kind: u8, head: u8, number: u8, state: u8) -> Result<(), AllocError> {
         self.put(u32::from(kind % 16) * 0x1000_0000 + u32::from(head % 128) * 0x20_0000)?;
         self.put(0x5000_0000 + u32::from(number % 128) * 0x4000 + u32::from(state % 128))
@@ -49,6 +50,7 @@ impl Writing {
     /// The end, with the number of words before it.
     pub fn end(&mut self) -> Result<(), AllocError> {
         let before = self.bytes.len() / 4 % 0x1000;
+        // By `as`, as there is no `From` between them: twelve bits always fit.
         self.put(0x8000_0000 + before as u32)
     }
 
