@@ -15,6 +15,7 @@ pub struct Counts {
 
 impl Counts {
     /// Nothing was read.
+    // `default` with the contract that callers' clauses cite: four zeros written out would be no plainer.
     pub fn new() -> Counts
         ensures { result ≡ none }
     {
@@ -22,6 +23,7 @@ impl Counts {
     }
 
     /// The counts with so many bytes more.
+    // `as` widens, here and for a message's length: the library has no `From` or `TryFrom` of a `usize` for `u64`.
     pub fn with_bytes(self, n: usize) -> Counts
         ensures { result ≡ with_bytes self n }
     {

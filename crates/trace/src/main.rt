@@ -18,7 +18,7 @@ fn run(rt: &HostRuntime) -> io::Result<()> {
     let mut out = BufWriter::new(rt.alloc(), rt.stdout())?;
     let mut block = vec![in rt.alloc(); 0u8; BLOCK]?;
     let mut tracer = Tracer::new();
-    // nothing says that an input ends, so the turns are counted
+    // a rule: nothing runs for ever. Nothing says that an input ends, so the turns are counted
     for _ in 0..u64::MAX {
         let n = input.read(block.as_mut_slice())?;
         if n == 0 {
