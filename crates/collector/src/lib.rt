@@ -7,7 +7,7 @@ mod feeding;
 pub mod laws;
 
 /// The longest message that is collected, F0h and F7h counted, and the least buffer.
-pub const LONGEST: usize = 512;
+pub use message::LONGEST;
 
 /// Collects one cable's bytes. The bytes of the open message stand at the front of the buffer that is lent to each call: there is no heap, so
 /// their place is the caller's, and only how many they are is held.

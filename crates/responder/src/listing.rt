@@ -4,7 +4,7 @@ ghost use Rattle.host.specs.Rows.{has as listed, is_on, look, Sound};
 ghost use Rattle.responder.specs.Plans.{has_row};
 
 use crate::action::Named;
-use host::{Host, find_row};
+use host::{Host, MOST_ROWS, find_row};
 use message::{Pair, Row};
 
 /// The rows of a host: few, in range and rising.
@@ -51,10 +51,10 @@ impl<'a> Listing<'a> {
     }
 
     /// A copy of the rows, with room for the most that a listing has.
-    pub fn copy(self) -> [Row; 64]
+    pub fn copy(self) -> [Row; MOST_ROWS]
         ensures { take (length self.entry.rows.now) result ≡ self.entry.rows.now }
     {
-        let mut copy = [Row::default(); 64];
+        let mut copy = [Row::default(); MOST_ROWS];
         copy[0..self.rows.len()].copy_from_slice(self.rows);
         copy
     }

@@ -12,8 +12,8 @@ use crate::opening::Opening;
 use crate::refusal::SheetRefusal;
 use crate::slots::Slots;
 use crate::word::fields;
-use host::count_at;
-use layers::{Member, Pair};
+use host::{MOST_AT_ONE, MOST_ROWS, count_at};
+use layers::{MOST_ENTRIES, Member, Pair};
 use message::{Identity, Refusal, Row};
 use rising::Keyed;
 
@@ -21,9 +21,9 @@ use rising::Keyed;
 #[derive(Drop)]
 pub struct Draft {
     pub identity: Identity,
-    pub rows: Slots<Row, 64>,
-    pub members: Slots<Member, 16>,
-    pub pairs: Slots<Pair, 16>,
+    pub rows: Slots<Row, MOST_ROWS>,
+    pub members: Slots<Member, MOST_ENTRIES>,
+    pub pairs: Slots<Pair, MOST_ENTRIES>,
 }
 
 // Whether `x` comes after the last of the list.
@@ -61,7 +61,7 @@ impl Draft {
     {
         let [address, ..] = fields(opening.word);
         match opening.kind {
-            Opens::Row => self.rows.has_room() && count_at(self.rows.as_slice(), address) < 21,
+            Opens::Row => self.rows.has_room() && count_at(self.rows.as_slice(), address) < MOST_AT_ONE,
             Opens::Member => self.members.has_room(),
             Opens::Pair => self.pairs.has_room(),
             Opens::End => true,
