@@ -96,6 +96,7 @@ impl Draft {
     }
 
     // The entry that the word `n` completes, or what is wrong with that word; the end opens none.
+    // The two words come apart: both together are the `Entry`, and only words without fault make one.
     pub(crate) fn ending(
         &self,
         n: usize,

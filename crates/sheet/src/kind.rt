@@ -23,7 +23,7 @@ pub enum Kind {
 }
 
 impl Kind {
-    // What the top four bits say, unless they are the number of no kind.
+    // What the top four bits say, unless they are the number of no kind. No `TryFrom`: its error would say no more than `None`.
     pub(crate) fn of(word: u32) -> Option<Kind>
         ensures { MatchOption result (is_kind (kind word) ≡ false) (λ k. kind word ≡ code k) }
     {

@@ -7,7 +7,8 @@ use host::Table;
 use layers::{Members, Pairs};
 use message::Identity;
 
-// What is promised of a sheet names its value, which cannot be done where it is declared.
+// What is promised of a sheet names its value, which cannot be done where it is declared. No `impl Model`: callers read the field
+// `identity`, and of a type with a model a clause sees the value alone.
 mod calls;
 pub(crate) mod making;
 
