@@ -61,7 +61,8 @@ impl Draft {
     {
         let [address, ..] = fields(opening.word);
         match opening.kind {
-            Opens::Row => self.rows.has_room() && count_at(self.rows.as_slice(), address) < MOST_AT_ONE,
+            Opens::Row => self.rows.has_room()
+                && count_at(self.rows.as_slice(), address) < MOST_AT_ONE,
             Opens::Member => self.members.has_room(),
             Opens::Pair => self.pairs.has_room(),
             Opens::End => true,
