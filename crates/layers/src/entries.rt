@@ -31,6 +31,7 @@ impl Ranged for Pair {
 
 /// Up to 16 entries, in range and rising by their keys.
 // A rule: no heap. Not one type with the slots of a sheet's draft: this list always rises, is in range, and is copied.
+// No `impl Model`: that of a `Copy` type may forget nothing, and this one's would forget the slots beyond `count`.
 #[derive(Copy)]
 pub struct Entries<T: Keyed + Ranged + Copy> {
     slots: [T; MOST_ENTRIES],

@@ -77,6 +77,7 @@ impl<B: Host> Sets<B> {
     }
 
     // Puts the rivals of the row off below.
+    // `same`, here and in each call that changes rows, compares before and after, which no ghost field or model can say.
     fn put_off(&mut self, pair: Pair)
         requires { set_on (members_of self.old.members) (B.listing self.old.below) (B.consents self.old.below) pair.address pair.id ≡ true }
         ensures done { Cleared (members_of self.old.members) (B.listing self.old.below) (B.consents self.old.below) (B.fixed self.old.below) pair.address pair.id (length (B.listing self.old.below)) (B.listing self.new.below) (B.consents self.new.below) (B.fixed self.new.below) }

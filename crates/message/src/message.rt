@@ -1,7 +1,8 @@
 //! Messages taken apart: each part is lent from the bytes that were read.
 
 /// What a message holds, by its Sub-ID.
-// Slices and no arrays: arrays would ask more of whoever builds a `Message` to have it told in words.
+// Slices and no arrays: arrays would ask more of whoever builds a `Message` to have it told in words. By a rule read messages are an
+// enum that borrows from the input; `Other` is a case of it, as an `Option` around it would only be matched twice.
 #[derive(Clone, Copy)]
 pub enum Content<'a> {
     /// The whole body: 11 identity bytes, what is supported, the largest message, and from version 2 on the Output Path Id.

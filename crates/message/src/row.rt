@@ -16,6 +16,7 @@ pub struct Row {
 
 impl Row {
     /// The row that a pair names, on or off.
+    // No `From`: it would take a tuple, and `Row::from((pair, on))` is no plainer.
     pub fn new(pair: Pair, on: bool) -> Row
         ensures { result ≡ named pair on }
     {

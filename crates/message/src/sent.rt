@@ -6,7 +6,7 @@ use crate::profile_id::ProfileId;
 use crate::sub_id::NakStatus;
 
 /// A message to send.
-// `address` and `id` stand apart: a type of both would change how callers write these cases.
+// `address` and `id` stand apart: but for one arm, whoever writes a message takes one of them alone.
 #[derive(Clone, Copy)]
 pub enum Sent {
     /// To every device, with Output Path Id 00h.

@@ -33,6 +33,7 @@ impl SubId {
 #[derive(Clone, Copy)]
 pub struct UnknownSubId(pub u8);
 
+// `TryFrom`, as a byte stands for a case here; an address, a Profile ID and a MUID hold what they are made of, and have `new`.
 impl TryFrom<u8> for SubId {
     type Error = UnknownSubId;
 

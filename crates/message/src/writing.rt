@@ -18,6 +18,7 @@ use crate::sub_id::SubId;
 fn channel_count(address: Address) -> [u8; 2]
     ensures { result ≡ channels address.byte }
 {
+    // Channels by their bytes, below 10h: a method of `Address` for this one question would be no plainer.
     if address.byte < 0x10 {
         [0x01, 0x00]
     } else {

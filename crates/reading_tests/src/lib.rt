@@ -10,6 +10,7 @@ mod tests {
     use std::process::Abort;
 
     // What reading gave: whether the bytes are framed, and what a reply to a Profile Inquiry lists.
+    // `Refused` is a case and no `Result` around the others: each test compares with one value.
     #[derive(Clone, Copy, PartialEq, Eq, Debug)]
     enum Outcome {
         Refused,

@@ -20,6 +20,7 @@ use numbers::Numbers;
 /// The least answer buffer.
 pub(crate) const ROOM: usize = 1024;
 
+// `does`, `rest` and `same` stand in each call: they compare before and after, which no ghost field or model can say.
 impl<P: Host> Responder<P> {
     /// A responder over a host, with the own number that the draw gives. Nobody is listed.
     pub fn start(host: P, identity: Identity, draw: u32) -> Responder<P>

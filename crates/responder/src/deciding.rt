@@ -77,6 +77,7 @@ fn path_of(version: u8, body: &[u8]) -> u8
 }
 
 /// A message that asks something, who asks, and the rows that are listed.
+// `m` is the message that was read, as `message` is the name of its bytes.
 #[derive(Clone, Copy)]
 struct Inquiry<'a> {
     listing: Listing<'a>,
@@ -119,6 +120,7 @@ impl Inquiry<'_> {
     fn discovered(self, body: &[u8]) -> Result<Action, Refusal>
         ensures { (d : Identity) (own : ℕ) (others : List ℕ) (l : List Row) (draw : ℕ) → decided d own others l draw result ≡ (if nat_eq self.entry.m.address 0x7F then send (discover_reply d own self.entry.from.number (if nat_le self.entry.m.version 1 then 0x00 else slice_index body.now 16) ∷ []) own (noted own self.entry.from.number others) else denying d own others l NakStatus.Malformed (header_of self.entry.m self.entry.from.number)) }
     {
+        // By its byte, in hexadecimal like all bytes of messages: `Address::function_block().byte` would be no plainer.
         if self.m.address != 0x7F {
             return self.deny(NakStatus::Malformed);
         }

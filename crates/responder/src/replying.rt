@@ -55,6 +55,7 @@ impl Replies<'_> {
         ensures { Put answer.old 0 (lists_bytes self.entry.own.number self.entry.to.number self.entry.listing.rows.now address.byte) result answer.new }
     {
         let mut pen = Pen { out: answer, at: 0 };
+        // By its byte, as in `put_every`.
         if address.byte == 0x7F {
             self.put_every(&mut pen);
         } else {

@@ -18,6 +18,8 @@ pub(crate) fn send(sent: Sent, own: Muid, pen: &mut Pen<'_>)
 }
 
 /// One message.
+// Each answer, here and in the three other functions that write one, makes its pen: with one lent by `act`, contracts would speak
+// of a pen before and after in place of bytes and a length.
 pub(crate) fn write_one(sent: Sent, own: Muid, answer: &mut [u8; ROOM]) -> usize
     ensures { Sends (bytes (meant own.number sent ∷ [])) answer.old (Ok result) answer.new }
 {

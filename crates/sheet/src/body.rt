@@ -23,6 +23,7 @@ pub(crate) fn body(bytes: &[u8], mut draft: Draft) -> Result<Draft, SheetRefusal
     while let Some((word, after)) = split_word(left) {
         let opening = draft.opening(n, last, word)?;
         let next = split_word(after);
+        // An `if` and no `match` on the kind: a row, a member and a pair go the same way.
         if opening.kind == Opens::End {
             return match next {
                 None => Ok(draft),

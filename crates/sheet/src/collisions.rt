@@ -6,8 +6,8 @@ ghost use Rattle.sheet.specs.Collisions.{collide, hit, clash};
 use layers::Member;
 use message::Row;
 
-// The set that an ID is in, if it is in one: a slice may say 0, which is none. `layers::Members` answers this of a list in order,
-// but is made only when the sheet has no collision; and its `is_rival` leaves out a row of the same pair, which `collide` does not.
+// The set that an ID is in, if it is in one: 0 is none. Not `layers::Members`, nor a search: both need members that rise, and no clause
+// says so before the last test; and `is_rival` there leaves out a row of the same pair, which `collide` does not.
 fn set_of(members: &[Member], id: [u8; 5]) -> Option<u8>
     ensures { result ≡ some_set (set_of members.now id) }
 {

@@ -18,6 +18,7 @@ use message::{Identity, Refusal, Row};
 use rising::Keyed;
 
 /// The identity, and the entries read so far.
+// No `impl Model`: `make` reads the fields one by one, and of a type with a model a clause sees the value alone.
 #[derive(Drop)]
 pub struct Draft {
     pub identity: Identity,

@@ -34,6 +34,7 @@ impl Entry {
             }),
             Opens::Member => Entry::Member(Member { id, set: head }),
             Opens::Pair => Entry::Pair(Pair { address: head, id }),
+            // Never, by the `requires`. A type of openings without the end would be one more enum, and `Opens` orders all four.
             Opens::End => unreachable!(),
         }
     }

@@ -70,6 +70,7 @@ impl SheetRefusal {
             Refusal::SheetOrder => out_of_order(place),
             Refusal::FieldOutOfRange => out_of_range(place),
             Refusal::NotRising => not_rising(place),
+            // The fifth, `SetCollision`: callers read the field as a `Refusal`, so a type of these five alone cannot stand there.
             _ => "row on in the same set and at the same address as a row before it",
         }
     }

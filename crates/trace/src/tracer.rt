@@ -12,6 +12,7 @@ use std::io::Write;
 use wording::Words;
 
 /// Collects the messages of a cable and counts them.
+// No `impl Model`: `main` reads the field `counts`, and of a type with a model a clause sees the value alone.
 #[derive(Drop)]
 pub struct Tracer {
     collector: Collector,
@@ -53,6 +54,7 @@ impl Tracer {
     fn step<W: Write>(&mut self, byte: u8, out: &mut W) -> io::Result<()>
         ensures { OnOk result (state_of self.new ≡ steps (state_of self.old) byte) }
     {
+        // `Ok` alone: a buffer of 512 bytes is never refused, and an `unwrap` would be no plainer.
         if let Ok(Some(n)) = self.collector.feed(byte, &mut self.buffer) {
             self.counts = tell(&self.buffer[0..n], self.counts, out)?;
         }
