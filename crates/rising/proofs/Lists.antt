@@ -4,6 +4,7 @@ use native.Mathlib.Numerals.{unary_clauses}
 use Rattle.std.proofs.lemmas.Bool.{and_parts, and_from, or_from, or_left, or_right, or_cases, both_ways, cases_Bool, cases_lt, false_from_ne_true}
 use Rattle.std.specs.List.{insert, remove, AllAdjacentBelow, IsAllAdjacentAnswer}
 use Rattle.std.proofs.lemmas.List.{get_or_default}
+use Rattle.std.proofs.lemmas.List.Elements.{at_read}
 use Rattle.rising.specs.Order.{Key, before, Before, same_key}
 use Rattle.rising.specs.Lists.{leads, rising, Rising, holds, found, Stands, Absent, Gap, entered, without, having}
 use Rattle.rising.proofs.Order.{before_irrefl, before_trans, before_asym, same_eq, same_from, differs_from, differs_below}
@@ -19,6 +20,24 @@ module _ {X : Type 0} (key : X → Key) where
   rising_at (x ∷ xs) h i zero d l m = absurd (omega arith)
   rising_at (x ∷ xs) h zero (suc j) d l m = leads_at x xs (and_parts _ _ h).0 j d (omega arith)
   rising_at (x ∷ xs) h (suc i) (suc j) d l m = rising_at xs (and_parts _ _ h).1 i j d (omega arith) (omega arith)
+
+  -- a record before x has only such in front of it
+  pub low_more : (xs : List X) (x : X) → Rising key xs → (m : ℕ) (y : X) → m < length xs → y ≡ get_or xs m y → Before (key y) (key x) → (k : ℕ) (d : X) → k < m + 1 → Before (key (get_or xs k d)) (key x)
+  low_more xs x up m y l read here k d h =
+      let at = at_read xs (λ z. Before (key z) (key x)) m y l read here d in
+      ⊎_elim
+      (λ (e : k < m). before_trans (key (get_or xs k d)) (key (get_or xs m d)) (key x) (rising_at xs up k m d e l) at)
+      (λ (e : m ≤ k). let s : m ≡ k = omega arith in rw s at at)
+      (cases_lt k m)
+
+  -- a record after x has only such after it
+  pub high_more : (xs : List X) (x : X) → Rising key xs → (m : ℕ) (y : X) → m < length xs → y ≡ get_or xs m y → Before (key x) (key y) → (k : ℕ) (d : X) → m ≤ k → k < length xs → Before (key x) (key (get_or xs k d))
+  high_more xs x up m y l read here k d h lk =
+      let at = at_read xs (λ z. Before (key x) (key z)) m y l read here d in
+      ⊎_elim
+      (λ (e : m < k). before_trans (key x) (key (get_or xs m d)) (key (get_or xs k d)) at (rising_at xs up m k d e lk))
+      (λ (e : k ≤ m). let s : m ≡ k = omega arith in rw s at at)
+      (cases_lt m k)
 
   pub absent_from_gap : (xs : List X) (x : X) (i : ℕ) → Gap key x xs i → Absent key x xs
   absent_from_gap xs x i g k d l e =
