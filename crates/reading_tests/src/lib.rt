@@ -6,8 +6,8 @@ ghost use Rattle.std.specs.Prelude.{◌<◌};
 #[cfg(test)]
 mod tests {
     use message::{Content, read};
-    use std::alloc::AllocGlobal;
-    use std::process::Abort;
+    use std::alloc::{AllocError, AllocGlobal};
+    use std::test::Fail;
 
     // What reading gave: whether the bytes are framed, and what a reply to a Profile Inquiry lists.
     // `Refused` is a case and no `Result` around the others: each test compares with one value.
@@ -34,49 +34,54 @@ mod tests {
     }
 
     // A message of so many bytes: of that Sub-ID and version, with zeros in its body, and cut off where it is to be shorter than that.
-    fn message(rt: &(impl Abort + AllocGlobal), sub_id: u8, version: u8, length: usize) -> Vec<u8> {
+    fn message(
+        rt: &impl AllocGlobal,
+        sub_id: u8,
+        version: u8,
+        length: usize,
+    ) -> Result<Vec<u8>, AllocError> {
         let head = [0xF0, 0x7E, 0x7F, 0x0D, sub_id, version];
-        let mut bytes = Vec::from_array(rt.alloc(), head).expect(rt, "memory");
-        bytes.resize(length, 0).expect(rt, "memory");
+        let mut bytes = Vec::from_array(rt.alloc(), head)?;
+        bytes.resize(length, 0)?;
         if let Some(last) = bytes.last_mut() {
             *last = 0xF7;
         }
-        bytes
+        Ok(bytes)
     }
 
     // What the message of so many bytes gives.
     fn reading_of(
-        rt: &(impl Abort + AllocGlobal),
+        rt: &impl AllocGlobal,
         sub_id: u8,
         version: u8,
         length: usize,
-    ) -> Outcome {
-        reading(message(rt, sub_id, version, length).as_slice())
+    ) -> Result<Outcome, AllocError> {
+        Ok(reading(message(rt, sub_id, version, length)?.as_slice()))
     }
 
     // Whether the message of a length, and nothing else, is read.
-    fn reads_length(rt: &(impl Abort + AllocGlobal), length: usize) -> bool {
-        reading_of(rt, 0x20, 2, length) == Outcome::Known
+    fn reads_length(rt: &impl AllocGlobal, length: usize) -> Result<bool, AllocError> {
+        Ok(reading_of(rt, 0x20, 2, length)? == Outcome::Known)
     }
 
     // Whether a message of 22 bytes with another byte at a place is read.
-    fn reads_with(rt: &(impl Abort + AllocGlobal), place: usize, byte: u8) -> bool {
-        let mut bytes = message(rt, 0x22, 2, 22);
+    fn reads_with(rt: &impl AllocGlobal, place: usize, byte: u8) -> Result<bool, AllocError> {
+        let mut bytes = message(rt, 0x22, 2, 22)?;
         if let Some(changed) = bytes.get_mut(place) {
             *changed = byte;
         }
-        reading(bytes.as_slice()) != Outcome::Refused
+        Ok(reading(bytes.as_slice()) != Outcome::Refused)
     }
 
     // What a listing of 124 bytes with these counts of IDs gives, each of two bytes.
-    fn counted(rt: &(impl Abort + AllocGlobal), on: [u8; 2], off: [u8; 2]) -> Outcome {
-        let mut bytes = message(rt, 0x21, 2, 124);
+    fn counted(rt: &impl AllocGlobal, on: [u8; 2], off: [u8; 2]) -> Result<Outcome, AllocError> {
+        let mut bytes = message(rt, 0x21, 2, 124)?;
         for (place, count) in [(14, on), (16 + number(on) * 5, off)] {
             if let Some(counted) = bytes.as_mut_slice().get_mut(place..place + 2) {
                 counted.copy_from_slice(&count);
             }
         }
-        reading(bytes.as_slice())
+        Ok(reading(bytes.as_slice()))
     }
 
     // The number of two bytes of seven bits, lowest first.
@@ -88,36 +93,39 @@ mod tests {
     }
 
     #[test]
-    fn lengths(rt: HostRuntime) {
+    fn lengths(rt: HostRuntime) -> Result<(), Fail> {
         for length in 0..17 {
-            assert_eq!(rt; reads_length(&rt, length), length >= 15);
+            assert_eq!(rt; reads_length(&rt, length)?, length >= 15);
         }
         for length in 511..515 {
-            assert_eq!(rt; reads_length(&rt, length), length <= 512);
+            assert_eq!(rt; reads_length(&rt, length)?, length <= 512);
         }
+        Ok(())
     }
 
     #[test]
-    fn frame_bytes(rt: HostRuntime) {
+    fn frame_bytes(rt: HostRuntime) -> Result<(), Fail> {
         for byte in 0..=255 {
-            assert_eq!(rt; reads_with(&rt, 0, byte), byte == 0xF0);
-            assert_eq!(rt; reads_with(&rt, 1, byte), byte == 0x7E);
-            assert_eq!(rt; reads_with(&rt, 3, byte), byte == 0x0D);
-            assert_eq!(rt; reads_with(&rt, 21, byte), byte == 0xF7);
+            assert_eq!(rt; reads_with(&rt, 0, byte)?, byte == 0xF0);
+            assert_eq!(rt; reads_with(&rt, 1, byte)?, byte == 0x7E);
+            assert_eq!(rt; reads_with(&rt, 3, byte)?, byte == 0x0D);
+            assert_eq!(rt; reads_with(&rt, 21, byte)?, byte == 0xF7);
         }
+        Ok(())
     }
 
     #[test]
-    fn inner_bytes(rt: HostRuntime) {
+    fn inner_bytes(rt: HostRuntime) -> Result<(), Fail> {
         for place in 1..21 {
-            assert_eq!(rt; reads_with(&rt, place, 0x80), false);
-            assert_eq!(rt; reads_with(&rt, place, 0xFF), false);
-            assert_eq!(rt; reads_with(&rt, place, 0x7F), place != 1 && place != 3);
+            assert_eq!(rt; reads_with(&rt, place, 0x80)?, false);
+            assert_eq!(rt; reads_with(&rt, place, 0xFF)?, false);
+            assert_eq!(rt; reads_with(&rt, place, 0x7F)?, place != 1 && place != 3);
         }
+        Ok(())
     }
 
     #[test]
-    fn counted_ids(rt: HostRuntime) {
+    fn counted_ids(rt: HostRuntime) -> Result<(), Fail> {
         for high in 0..=0x7F {
             for low in 0..=0x7F {
                 let count = number([low, high]);
@@ -131,29 +139,31 @@ mod tests {
                 };
                 let fits = count <= 21;
                 assert_eq!(rt;
-                    counted(&rt, [low, high], [0, 0]),
+                    counted(&rt, [low, high], [0, 0])?,
                     if fits { on } else { Outcome::Other }
                 );
                 assert_eq!(rt;
-                    counted(&rt, [0, 0], [low, high]),
+                    counted(&rt, [0, 0], [low, high])?,
                     if fits { off } else { Outcome::Other }
                 );
             }
         }
         assert_eq!(rt;
-            counted(&rt, [20, 0], [1, 0]),
+            counted(&rt, [20, 0], [1, 0])?,
             Outcome::Listed { on: 100, off: 5 }
         );
-        assert_eq!(rt; counted(&rt, [20, 0], [2, 0]), Outcome::Other);
+        assert_eq!(rt; counted(&rt, [20, 0], [2, 0])?, Outcome::Other);
+        Ok(())
     }
 
     #[test]
-    fn versions(rt: HostRuntime) {
+    fn versions(rt: HostRuntime) -> Result<(), Fail> {
         for sub_id in 0..128 {
-            assert_eq!(rt; reading_of(&rt, sub_id, 0, 60), Outcome::Other);
+            assert_eq!(rt; reading_of(&rt, sub_id, 0, 60)?, Outcome::Other);
         }
-        assert_eq!(rt; reading_of(&rt, 0x70, 127, 31), Outcome::Other);
-        assert_eq!(rt; reading_of(&rt, 0x70, 127, 32), Outcome::Known);
-        assert_eq!(rt; reading_of(&rt, 0x70, 1, 31), Outcome::Known);
+        assert_eq!(rt; reading_of(&rt, 0x70, 127, 31)?, Outcome::Other);
+        assert_eq!(rt; reading_of(&rt, 0x70, 127, 32)?, Outcome::Known);
+        assert_eq!(rt; reading_of(&rt, 0x70, 1, 31)?, Outcome::Known);
+        Ok(())
     }
 }
