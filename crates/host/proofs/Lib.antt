@@ -3,4 +3,3 @@ pub mod Keeping
 pub mod Calls
 pub mod Makings
 pub mod FindingRows
-pub mod Tallies

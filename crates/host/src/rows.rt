@@ -37,7 +37,14 @@ pub fn count_at(rows: &[Row], address: u8) -> usize
     ensures value { result ≡ tally address rows.now }
     ensures bound { result ≤ length rows.now }
 {
-    rows.iter().filter(|row| address == row.address).count()
+    // A loop: `filter(..).count()` takes more than twice as long, and a making counts for each of its rows.
+    let mut count = 0;
+    for row in rows {
+        if address == row.address {
+            count += 1;
+        }
+    }
+    count
 }
 
 /// Whether more than 21 rows stand at the address of one of them.

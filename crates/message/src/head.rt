@@ -22,6 +22,8 @@ pub(crate) struct Head {
 
 impl Head {
     /// Puts `F0 7E` address `0D` Sub-ID `02`, source, destination.
+    // Hints, here, in `pen` and in `writing`: a part whose length is known where it is put costs a few instructions.
+    #[inline(always)]
     pub(crate) fn put(self, pen: &mut Pen<'_>)
         requires { pen.old.at + 14 ≤ length pen.old.out.now }
         ensures { Puts (header (code self.sub_id) self.address.byte self.source.number self.destination.number) pen.old pen.new }
@@ -39,6 +41,7 @@ impl Head {
     }
 
     /// Writes the message whose body has these two parts.
+    #[inline(always)]
     pub(crate) fn write(self, first: &[u8], second: &[u8], pen: &mut Pen<'_>) -> Result<(), Refusal>
         requires { length first.now + length second.now ≤ 497 }
         ensures { PutOrNot (encode (sends self.source.number self.address.byte self.sub_id self.destination.number (first.now ++ second.now))) pen.old result pen.new }

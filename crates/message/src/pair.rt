@@ -34,6 +34,8 @@ impl Pair {
 impl Keyed for Pair {
     ghost key = { pair_key };
 
+    // A hint, as for rows.
+    #[inline(always)]
     fn compare(&self, other: &Pair) -> Ordering {
         self.cmp(other)
     }

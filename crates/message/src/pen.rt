@@ -15,6 +15,7 @@ pub struct Pen<'a> {
 
 impl Pen<'_> {
     /// Whether a message of so many bytes goes into what is left.
+    #[inline(always)]
     pub(crate) fn has_room(&self, bytes: usize) -> bool
         ensures { result ≡ room_for bytes self.now.out.now self.now.at }
     {
@@ -23,6 +24,7 @@ impl Pen<'_> {
     }
 
     /// Copies bytes to the place, which moves to where they end.
+    #[inline(always)]
     pub(crate) fn put(&mut self, bytes: &[u8])
         requires { Room bytes.now self.old }
         ensures { Puts bytes.now self.old self.new }

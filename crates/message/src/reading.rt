@@ -40,6 +40,7 @@ fn two_lists(body: &[u8]) -> Option<Content<'_>>
 
 impl SubId {
     /// The least length of its messages, by their version.
+    #[inline(always)]
     fn least_length(self, version: u8) -> usize
         ensures value { result ≡ least (code self) version }
         ensures bound { 15 ≤ result }

@@ -26,6 +26,8 @@ impl Row {
 
     /// What names the row.
     // No `From` for `Pair`: `Pair::from(row)` is no plainer than `row.pair()`.
+    // Hints, here and at `compare`: a search compares rows many times, and would copy two pairs each time.
+    #[inline(always)]
     pub fn pair(self) -> Pair
         ensures { result ≡ pair_of self }
     {
@@ -38,6 +40,7 @@ impl Row {
 impl Keyed for Row {
     ghost key = { row_key };
 
+    #[inline(always)]
     fn compare(&self, other: &Row) -> Ordering {
         self.pair().compare(&other.pair())
     }

@@ -39,6 +39,8 @@ impl TryFrom<u8> for SubId {
 
     ghost try_from_gives = { Decodes };
 
+    // A hint: a match on the cases is then one on the bytes.
+    #[inline(always)]
     fn try_from(byte: u8) -> Result<SubId, UnknownSubId> {
         match byte {
             0x20 => Ok(SubId::ProfileInquiry),

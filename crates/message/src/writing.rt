@@ -28,6 +28,7 @@ fn channel_count(address: Address) -> [u8; 2]
 
 impl Sent {
     /// What the message begins with.
+    #[inline(always)]
     fn head(self, source: Muid) -> Head
         ensures sub_id { code result.sub_id ≡ (meant source.number self).sub }
         ensures address { result.address.byte ≡ (meant source.number self).address }
@@ -55,6 +56,7 @@ impl Sent {
     }
 
     /// Writes the message from the own number with a pen, or refuses where it does not fit.
+    #[inline(always)]
     pub fn write(self, own: Muid, pen: &mut Pen<'_>) -> Result<(), Refusal>
         ensures { PutOrNot (encode (meant own.number self)) pen.old result pen.new }
     {

@@ -45,11 +45,15 @@ impl fmt::Display for Device {
     }
 }
 
-/// The hexadecimal digits. With `{byte:02X}` in their place `trace` takes 3.6 s for 200 MB of messages, measured as in docs/CHECKS.md, and with
-/// these 2.7 s.
-const DIGITS: [&str; 16] = [
-    "0", "1", "2", "3", "4", "5", "6", "7", "8", "9", "A", "B", "C", "D", "E", "F",
-];
+/// The hexadecimal digits, each a text of one byte. From a table of sixteen texts, whose lengths are read with them, `trace` takes three
+/// tenths longer to tell long messages, and with `{byte:02X}` longer still (docs/DESIGN-PASS.md).
+const DIGITS: &str = "0123456789ABCDEF";
+
+/// The digit of a number below 16.
+fn digit(n: u8) -> &'static str {
+    let place = usize::from(n);
+    DIGITS.get(place..=place).unwrap_or_default()
+}
 
 /// Bytes in hexadecimal.
 #[derive(Clone, Copy)]
@@ -61,8 +65,8 @@ impl fmt::Display for Hex<'_> {
         let mut gap = "";
         for byte in bytes {
             f.write_str(gap)?;
-            f.write_str(DIGITS[usize::from(byte / 0x10)])?;
-            f.write_str(DIGITS[usize::from(byte % 0x10)])?;
+            f.write_str(digit(byte / 0x10))?;
+            f.write_str(digit(byte % 0x10))?;
             gap = " ";
         }
         Ok(())
